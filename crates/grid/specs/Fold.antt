@@ -5,7 +5,8 @@ use Prim.Native.Nat.{ℕ, zero, suc, _+_, _-_, _*_, _≤_, _<_}
 use native.Mathlib.Nat.{mul-suc, add-zero, add-suc}
 use native.Mathlib.Numerals.{add-one}
 use native.Mathlib.Omega.{arith}
-use lib.Ieee.{Float, binary32, add, ofBits}
+use lib.Ieee.{Float, binary32, add}
+use Rattle.float.specs.Values.{f0}
 
 module _ {A B : Type 0} where
   unfoldable pub fold : (A → B → A) → A → (ℕ → B) → ℕ → A
@@ -93,9 +94,6 @@ sum-raised f b zero = omega arith
 sum-raised f b (suc n) = omega (arith, sum-raised f b n, mul-suc b n)
 
 -- ---- f32 sums: ((0 + f 0) + f 1) + .. + f (n - 1), each sum rounded once
-
-abbrev pub f0 : Float
-f0 = ofBits binary32 0
 
 abbrev pub fsum : (ℕ → Float) → ℕ → Float
 fsum f n = fold (add binary32) f0 f n

@@ -1,0 +1,7 @@
+-- Laws of f32 arithmetic: constants, rules proved by computing, bounds on a result's size, order, products, whole numbers.
+pub mod Values
+pub mod Computed
+pub mod Sized
+pub mod Order
+pub mod Product
+pub mod Whole
