@@ -8,11 +8,16 @@ use shells::{par, refine, uncertainty, ResponseMap};
 
 pub mod answers;
 pub mod frame;
+pub mod maker;
 pub mod original;
 pub mod outcome;
+pub mod pictures;
 pub mod printed;
+pub mod random;
 
 pub use answers::{accepted, refusal, Room};
 pub use frame::{document_frame, split, Frame};
+pub use maker::{damaged, made, make, Made, Sizes};
 pub use outcome::{run, Detector, Found, Outcome};
+pub use pictures::{Kind, KINDS};
 pub use printed::{list, printed, printed_by};
