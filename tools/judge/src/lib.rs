@@ -8,12 +8,14 @@ use shells::{par, refine, uncertainty, ResponseMap};
 
 pub mod answers;
 pub mod frame;
+pub mod lists;
 pub mod maker;
 pub mod original;
 pub mod outcome;
 pub mod pictures;
 pub mod printed;
 pub mod random;
+pub mod upsampled;
 
 pub use answers::{accepted, refusal, Room};
 pub use frame::{document_frame, split, Frame};
