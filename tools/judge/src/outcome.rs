@@ -2,6 +2,7 @@
 
 use std::str::FromStr;
 
+use crate::answers::refusal;
 use crate::frame::Frame;
 use crate::original::{self, RadonBuffers};
 
@@ -41,8 +42,9 @@ impl Detector {
         Self::default()
     }
 
-    /// The frame must be one that document 01 accepts.
+    /// What document 01 refuses never reaches the original: such a frame is a mistake of the caller.
     pub fn find(&mut self, frame: &Frame) -> Found<'_> {
+        assert_eq!(refusal(frame, usize::MAX), None, "a refused frame");
         let params = original::params(frame);
         let (width, height) = (frame.width as usize, frame.height as usize);
         let buffers = &mut self.buffers;

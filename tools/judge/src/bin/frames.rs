@@ -12,7 +12,7 @@ const HELP: &str = "\
 frames --seed S --count N [--first I] [--max-side M] [--damaged] (OUTDIR | --archive FILE | --tell)
 Writes the frame files of seed S, index I (0 if not given) to I+N-1; the same bytes for the same words.
   --max-side M  sides up to M; without it sizes are for the program: 2,304 working pixels
-  --damaged     damaged files instead
+  --damaged     damaged files instead; not for an archive, which their lengths would not cut
   --archive     one file, frame files end to end, each stating its own length
   --tell        writes nothing; counts what the original finds by kind, and the program's answers
 ";
@@ -148,7 +148,7 @@ fn main() {
     let options = options();
     let done = match (&options.archive, &options.folder) {
         _ if options.tell => tell(&options),
-        (Some(archive), None) => into_archive(&options, archive),
+        (Some(archive), None) if !options.damaged => into_archive(&options, archive),
         (None, Some(folder)) => into_folder(&options, folder),
         _ => leave(HELP, 2),
     };
