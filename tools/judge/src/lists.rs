@@ -112,7 +112,13 @@ fn greatest() -> Frame {
     }
 }
 
-/// Frames that document 01 names, and the ends of the sizes.
+/// Nine equal maxima of which rounding in the saddle test drops four or five, by the level.
+fn on_the_edge(bright: u8) -> Frame {
+    let pixel = |at: usize| [bright, 0][(at % 9 / 2 + at / 9 / 2) % 2];
+    like_document(9, 9, (0..81).map(pixel).collect())
+}
+
+/// Frames that document 01 names, the ends of the sizes, and a saddle on the edge.
 fn named() -> Vec<Frame> {
     vec![
         document_frame(),
@@ -139,6 +145,8 @@ fn named() -> Vec<Frame> {
             ..like_document(1, 1, vec![255])
         },
         greatest(),
+        on_the_edge(96),
+        on_the_edge(200),
     ]
 }
 

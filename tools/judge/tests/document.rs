@@ -131,3 +131,49 @@ fn a_place_past_the_row() {
     let view = original::view(&[1.0, 2.0], &[0, 0], 1, 2);
     assert_eq!(view.at(1, 0), 2.0);
 }
+
+/// In a map that is not the original's own, a NaN passes as above the floor and becomes a corner.
+#[test]
+fn a_value_that_is_no_number() {
+    // The middle of the document's frame.
+    let all = document_frame().pixels;
+    let image: Vec<u8> = (0..25)
+        .map(|at| all[(at / 5 + 1) * 7 + at % 5 + 1])
+        .collect();
+    let mut map = [0.0; 25];
+    map[12] = f32::NAN;
+    let settings = Frame {
+        suppression: 0,
+        least: 0,
+        ..document_frame()
+    };
+    let view = original::view(&map, &image, 5, 5);
+    let found = original::detect_peaks_from_radon(&view, &original::params(&settings));
+    assert_eq!(found.len(), 1);
+    assert!(found[0].iter().all(|number| number.is_nan()));
+}
+
+/// A board of two-pixel cells at ray 1: nine equal maxima. The saddle test compares two products
+/// that are equal before rounding, so the rounding says which of them are kept.
+#[test]
+fn a_saddle_on_the_edge() {
+    let kept = |bright: u8| {
+        let pixel = |at: usize| [bright, 0][(at % 9 / 2 + at / 9 / 2) % 2];
+        let pixels = (0..81).map(pixel).collect();
+        let frame = Frame {
+            width: 9,
+            height: 9,
+            pixels,
+            ..document_frame()
+        };
+        let outcome = run(&frame);
+        let inner = (3..6).flat_map(|y| (3..6).map(move |x| y * 9 + x));
+        assert!(inner
+            .clone()
+            .all(|at| outcome.response[at] == outcome.response[30]));
+        outcome.corners.len()
+    };
+    let five: Vec<u8> = (1..=255).filter(|bright| kept(*bright) == 5).collect();
+    assert_eq!(five, [3, 6, 12, 24, 48, 96, 192]);
+    assert!((1..=255).all(|bright| [4, 5].contains(&kept(bright))));
+}

@@ -9,7 +9,7 @@ use judge::Detector;
 const HELP: &str = "\
 upsampling [--every N] [--from K]
 Factor 2: all 256 values of equal pixels, then all 65,536 upper pairs of pixels over each
-N-th lower pair from the K-th on; N is 8 and K is 0 if not given, and N 1 sweeps all 2^32.
+N-th lower pair from the K-th on; N is 16 and K is 0 if not given, and N 1 sweeps all 2^32.
 ";
 
 fn leave(status: i32) -> ! {
@@ -18,7 +18,7 @@ fn leave(status: i32) -> ! {
 }
 
 fn options() -> (usize, usize) {
-    let (mut every, mut from) = (8, 0);
+    let (mut every, mut from) = (16, 0);
     let mut words = env::args().skip(1);
     while let Some(word) = words.next() {
         let mut number = || {
