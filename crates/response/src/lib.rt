@@ -1,0 +1,2 @@
+// The Radon response map: working image, four tables of running sums, response.
+mod upsample;
