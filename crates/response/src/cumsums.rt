@@ -104,10 +104,12 @@ pub fn build_cumsums(
     neg: &mut [u32],
 )
     requires { ⌜ (w ≤ 8192) × (h ≤ 8192) × (w * h ≤ length (now img)) × (w * h ≤ length (now row)) × (w * h ≤ length (now col)) × (w * h ≤ length (now pos)) × (w * h ≤ length (now neg)) ⌝ }
-    ensures rows { λ _. ⌜ now (row .exit) ≡ filled (w * h) (plane w (runSum along (pixel (now (img .entry)) w) w)) (now (row .entry)) ⌝ }
-    ensures columns { λ _. ⌜ now (col .exit) ≡ filled (w * h) (plane w (runSum down (pixel (now (img .entry)) w) w)) (now (col .entry)) ⌝ }
-    ensures falling { λ _. ⌜ now (pos .exit) ≡ filled (w * h) (plane w (runSum fall (pixel (now (img .entry)) w) w)) (now (pos .entry)) ⌝ }
-    ensures rising { λ _. ⌜ now (neg .exit) ≡ filled (w * h) (plane w (runSum rise (pixel (now (img .entry)) w) w)) (now (neg .entry)) ⌝ }
+    ensures { λ _. ⌜
+        (now (row .exit) ≡ filled (w * h) (plane w (runSum along (pixel (now (img .entry)) w) w)) (now (row .entry)))
+        × (now (col .exit) ≡ filled (w * h) (plane w (runSum down (pixel (now (img .entry)) w) w)) (now (col .entry)))
+        × (now (pos .exit) ≡ filled (w * h) (plane w (runSum fall (pixel (now (img .entry)) w) w)) (now (pos .entry)))
+        × (now (neg .exit) ≡ filled (w * h) (plane w (runSum rise (pixel (now (img .entry)) w) w)) (now (neg .entry)))
+        ⌝ }
 {
     sat_row(img, w, h, row);
     sat_col(img, w, h, col);
