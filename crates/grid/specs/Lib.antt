@@ -3,6 +3,7 @@ pub mod Fill
 pub mod Plane
 pub mod Loops
 pub mod Part
+pub mod Span
 pub mod Fold
 pub mod Ways
 pub mod Each

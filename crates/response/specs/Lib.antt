@@ -1,0 +1,3 @@
+-- The map: working image, running sums and response, as document 01 gives them; then the facts about them.
+pub mod Upsample
+pub mod Quarter

@@ -1,0 +1,3 @@
+// The Radon response map: working image, four tables of running sums, response.
+mod cumsums;
+mod upsample;
