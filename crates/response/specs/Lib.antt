@@ -1,0 +1,3 @@
+-- The response map: what each of its passes leaves.
+pub mod Blur
+pub mod BlurSteps

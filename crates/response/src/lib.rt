@@ -1,0 +1,2 @@
+// The response map of an image.
+mod blur;
