@@ -2,6 +2,7 @@ use mathlib.Core.Path.{_≡_, refl, sym, ap, _∙_}
 use Prim.Native.Nat.{ℕ, _+_, _-_, _*_, _≤_, _<_}
 use native.Mathlib.Omega.{arith}
 use lib.ListN.{length, getD}
+use Rattle.response.specs.BlurSteps.{divided}
 use borrow.Author.Needs.{needs}
 use Rattle.response.proofs.blur.divide_row.Statement.{statement}
 use Rattle.response.proofs.blur.divide_row.Tie as tie
@@ -41,7 +42,7 @@ same-length : tie.Need-same-length
 same-length c = search needs
 
 returns : tie.Need-returns
-returns c = omega arith
+returns c = divided _ _ _ _ (c .before .before .before .before .before .before .before .before .before .before .before .before .before .before .before .before .args .dst .now) refl (c .before .before .before .before .before .before .before .before .before .before .before .before .before .before .smaller .ensures) (c .before .before .before .before .before .before .before .before .before .before .before .before .before .less .ensures) (c .before .before .before .before .before .before .before .before .before .before .before .before .larger .ensures) (c .before .before .before .before .before .before .before .before .before .before .divide-edge .ensures) (c .before .before .before .before .before .before .divide .ensures) (c .before .before .divide-edge2 .ensures)
 
 pub divide-row-spec : {M : Type 1} → statement M
 divide-row-spec =

@@ -2,6 +2,9 @@ use mathlib.Core.Path.{_≡_, refl, sym, ap, _∙_}
 use Prim.Native.Nat.{ℕ, _+_, _-_, _*_, _≤_, _<_}
 use native.Mathlib.Omega.{arith}
 use lib.ListN.{length, getD}
+use lib.Ieee.{nan}
+use Rattle.grid.specs.Touch.{Stage}
+use Rattle.response.specs.BlurSteps.{grown, row-none, row-more, row-all}
 use Rattle.response.proofs.blur.sum_row.Statement.{statement}
 use Rattle.response.proofs.blur.sum_row.Tie as tie
 use Rattle.response.proofs.blur.sum_row.Reads as reads
@@ -12,10 +15,10 @@ use Rattle.response.proofs.blur.less.Reads as less-reads
 use Rattle.response.proofs.blur.smaller.Reads as smaller-reads
 
 abbrev Inv-loop : tie.InvT-loop
-Inv-loop src row radius dst₀ w size k₀ dst k = ?
+Inv-loop src row radius dst₀ w size k₀ dst k = (k ≤ size) × Stage w (grown (λ i. getD src (row + i) nan) w radius) dst₀ dst k
 
 abbrev μ-loop : tie.MeasureT-loop
-μ-loop src row radius dst₀ w size k₀ dst k = ?
+μ-loop src row radius dst₀ w size k₀ dst k = size - k
 
 mul-size : tie.Need-mul-size Inv-loop μ-loop
 mul-size c = omega arith
@@ -27,7 +30,9 @@ clear-requires : tie.Need-clear-requires Inv-loop μ-loop
 clear-requires c κs = omega arith
 
 loop-holds : tie.Need-loop-holds Inv-loop μ-loop
-loop-holds c = omega arith
+loop-holds c =
+    let p = c .before .before .before .before .before .before .args in
+    (omega arith, row-none (p .src .now) (p .row) _ (p .radius) (c .before .before .before .before .before .before .args .dst .now) refl (c .before .before .clear .ensures))
 
 less-requires : tie.Need-less-requires Inv-loop μ-loop
 less-requires c κs = omega arith
@@ -57,13 +62,17 @@ loop-less : tie.Need-loop-less Inv-loop μ-loop
 loop-less c = omega arith
 
 loop-again : tie.Need-loop-again Inv-loop μ-loop
-loop-again c = omega arith
+loop-again c =
+    let p = c .before .before .before .before .before .before .before .before .before .before .before .before .before .before .before .before .args in
+    (omega arith, row-more (p .src .now) (p .row) _ (p .radius) _ _ _ (c .before .before .before .before .before .before .before .less .ensures) (c .before .before .before .before .before .before .smaller .ensures) (c .before .before .before .before .before .less2 .ensures) (c .before .before .before .before .smaller2 .ensures) (c .before .before .before .before .before .before .before .before .before .loop .inv .1) (c .before .before .add .ensures))
 
 same-length : tie.Need-same-length Inv-loop μ-loop
 same-length c = omega arith
 
 returns : tie.Need-returns Inv-loop μ-loop
-returns c = omega arith
+returns c =
+    let p = c .before .before .before .before .before .before .before .before .args in
+    row-all (p .src .now) (p .row) _ (p .radius) (c .before .loop .k) (c .before .before .before .before .before .before .before .before .args .dst .now) refl (c .before .before .before .before .clear .ensures) (c .before .loop .inv .1) (omega arith)
 
 pub sum-row-spec : {M : Type 1} → statement M
 sum-row-spec =
