@@ -29,7 +29,7 @@ module _ {ℓ} {A : Type ℓ} where
     pub long : length out ≡ length old
 
   -- entries that are filled with themselves
-  filled-same : (d : A) (n : ℕ) (f : ℕ → A) (xs : List A) → ((j : ℕ) → j < n → f j ≡ getD xs j d) → xs ≡ filled n f xs
+  pub filled-same : (d : A) (n : ℕ) (f : ℕ → A) (xs : List A) → ((j : ℕ) → j < n → f j ≡ getD xs j d) → xs ≡ filled n f xs
   filled-same d n f xs h = ext-getD d xs (filled n f xs) (sym (length-filled n f xs)) (λ j b. at j b (decLt j n))
     where
       at : (j : ℕ) → j < length xs → Dec (j < n) → getD xs j d ≡ getD (filled n f xs) j d

@@ -1,3 +1,4 @@
 -- The response map: what each of its passes leaves.
 pub mod Blur
+pub mod BlurLaws
 pub mod BlurSteps
