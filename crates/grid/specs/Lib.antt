@@ -2,6 +2,7 @@
 pub mod Fill
 pub mod Plane
 pub mod Loops
+pub mod Touch
 pub mod Part
 pub mod Span
 pub mod Fold

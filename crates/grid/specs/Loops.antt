@@ -31,7 +31,7 @@ module _ {ℓ} {A : Type ℓ} where
     pub long : length out ≡ length old
 
 -- filling on from where the entries below i are done already
-fill-again {ℓ} : {A : Type ℓ} (i : ℕ) (f : ℕ → A) (xs : List A) {ys : List A} → ys ≡ filled i f xs → ys ≡ filled i f ys
+pub fill-again {ℓ} : {A : Type ℓ} (i : ℕ) (f : ℕ → A) (xs : List A) {ys : List A} → ys ≡ filled i f xs → ys ≡ filled i f ys
 fill-again i f xs h = h ∙ sym (filled-filled i i f f xs (omega arith)) ∙ ap (filled i f) (sym h)
 
 module _ {ℓ} {A : Type ℓ} (n : ℕ) (f : ℕ → A) (xs : List A) where

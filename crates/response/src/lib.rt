@@ -1,3 +1,4 @@
-// The Radon response map: working image, four tables of running sums, response.
+// The Radon response map: working image, four tables of running sums, response, blur.
+mod blur;
 mod cumsums;
 mod upsample;
