@@ -1,6 +1,11 @@
--- The map: working image, running sums, response and blur as document 01 gives them; then the facts about them.
+-- The map: working image, running sums, response and blur as document 01 gives them, and what the entry promises; then the facts about them.
 pub mod Upsample
+pub mod Response
 pub mod Blur
+pub mod Map
+pub mod Runs
 pub mod Quarter
+pub mod Tables
+pub mod Starts
 pub mod BlurLaws
 pub mod BlurSteps
