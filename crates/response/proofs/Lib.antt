@@ -2,3 +2,4 @@
 pub mod Upsampling
 pub mod Running
 pub mod Columns
+pub mod Rows

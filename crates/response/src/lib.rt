@@ -1,3 +1,4 @@
 // The Radon response map: working image, four tables of running sums, response.
 mod cumsums;
+mod rays;
 mod upsample;
