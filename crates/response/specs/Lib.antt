@@ -5,3 +5,5 @@ pub mod Response
 pub mod Tables
 pub mod Starts
 pub mod Inner
+pub mod Exact
+pub mod Worked
