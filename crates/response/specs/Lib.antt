@@ -1,4 +1,4 @@
--- The map: working image, running sums, response and blur as document 01 gives them, and what the entry promises; then the facts about them.
+-- The map: working image, response and blur as document 01 gives them, and what the entry promises; then the facts about them.
 pub mod Upsample
 pub mod Response
 pub mod Blur
@@ -7,5 +7,8 @@ pub mod Runs
 pub mod Quarter
 pub mod Tables
 pub mod Starts
+pub mod Inner
+pub mod Exact
+pub mod Worked
 pub mod BlurLaws
 pub mod BlurSteps
