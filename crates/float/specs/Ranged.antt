@@ -53,6 +53,10 @@ ranged-most {n = n} hi v (ranged {m = m} {e = e} h k) = le-of-values (fin false 
 pub ranged-finite : {a c n : ℕ} {x : Float} → Ranged a c n x → T (finite x)
 ranged-finite (ranged h k) = tt
 
+pub ranged-above : {a c n : ℕ} {x : Float} → Ranged a c n x → T (le f0 x)
+unfolding ofBits
+ranged-above (ranged {m = m} {e = e} h k) = le-of-values (fin false 0 (pos 0)) (fin false m e) 0 1 (m * up e) (down e) (lit< tt) (down-pos e) (refl, refl) (refl, refl) (omega (arith, zero-mul (down e)))
+
 -- a whole number
 pub ranged-whole : (n k : ℕ) (x : Float) → HasValue x false k 1 → 1 ≤ k → k ≤ n → Ranged 1 1 n x
 ranged-whole n k nan v a b = absurd v
