@@ -3,3 +3,4 @@ pub mod Blur
 pub mod BlurLaws
 pub mod BlurRange
 pub mod BlurSteps
+pub mod BlurWorked
