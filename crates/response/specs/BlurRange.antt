@@ -1,10 +1,10 @@
 -- How small and how large a blurred value can be. Where every value of the map is zero or from 1 to 15 * 2 ^ j, a blurred value is zero or lies between
 -- 2 ^ -6 and 2 ^ (4 + j): j is 20 for eight-bit pixels and 28 for twelve-bit ones. So it is never NaN, infinite or negative. Assumes nothing.
-use mathlib.Core.Path.{_≡_, refl, sym, ap, _∙_, subst}
+use mathlib.Core.Path.{_≡_, refl, subst}
 use mathlib.Core.Logic.{_⊎_, inl, inr}
-use mathlib.Core.Bool.{Bool, true, false, _&&_}
-use Prim.Native.Nat.{ℕ, zero, suc, _+_, _-_, _*_, _^_, _≤_, _<_, min}
-use native.Mathlib.Nat.{mul-assoc, mul-comm, mul-one, mul-le-mul-right, suc-mul}
+use mathlib.Core.Bool.{Bool, false, _&&_}
+use Prim.Native.Nat.{ℕ, zero, suc, _+_, _-_, _*_, _^_, _≤_, _<_}
+use native.Mathlib.Nat.{mul-assoc, mul-comm, mul-le-mul-right, suc-mul}
 use native.Mathlib.Omega.{arith}
 use lib.Dec.{T, lit<, lit≤, leb, leb→le}
 use lib.Pow.{pow-add}
@@ -20,7 +20,7 @@ use Rattle.float.specs.Computed.{every, every-at}
 use Rattle.float.specs.Sized.{Held, held}
 use Rattle.float.specs.Ranged.{Ranged, Exact, exact, ranged-sized, ranged-wider, ranged-least, ranged-most, ranged-finite, ranged-above, ranged-whole, add-left, add-right, mul-ranged, div-ranged, add-zeros, mul-zero-by, div-zero-by, zero-sized}
 use Rattle.grid.specs.Fold.{fold, fsum}
-use Rattle.response.specs.Blur.{counted, countOf, windowSum, rowMean, columnMean, blurAt}
+use Rattle.response.specs.Blur.{counted, windowSum, rowMean, columnMean, blurAt}
 use Rattle.response.specs.BlurLaws.{place-in}
 
 -- zero, or at least a / c and at most n

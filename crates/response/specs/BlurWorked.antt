@@ -1,6 +1,5 @@
 -- Document 01's P9, computed from the definition that the blur's contract cites. Assumes nothing.
 use mathlib.Core.Path.{_≡_, refl}
-use Prim.Native.Nat.{ℕ}
 use mathlib.Core.List.{List, [], _∷_}
 use lib.Ieee.{Float, binary32, ofBits, add, mul, div, ofInt, round}
 use Rattle.float.specs.Values.{f0, f1}
