@@ -1,7 +1,7 @@
 -- `touched d a e g xs`: xs with each entry from a and below e replaced by what g makes of its number and of itself, the others as they were.
 -- What a loop promises that goes over a part of a buffer and reads each entry only to replace it. d stands for an entry outside. Assumes nothing.
 use mathlib.Core.Path.{_≡_, refl, sym, ap, _∙_}
-use mathlib.Core.Bool.{Bool, true, false, _&&_, cond, and-false}
+use mathlib.Core.Bool.{_&&_, cond, and-false}
 use Prim.Native.Nat.{ℕ, zero, suc, _+_, _≤_, _<_}
 use native.Mathlib.Decide.{decLt}
 use native.Mathlib.Omega.{arith}

@@ -1,19 +1,19 @@
 -- What the blur depends on: only on the map's values inside. Equal maps blur equally, so what raises a frame and leaves its response leaves the blurred map.
 -- Assumes nothing.
-use mathlib.Core.Path.{_≡_, refl, sym, ap, _∙_}
+use mathlib.Core.Path.{_≡_, refl, ap, _∙_}
 use mathlib.Core.Logic.{_≢_}
-use Prim.Native.Nat.{ℕ, zero, suc, _+_, _-_, _*_, _/_, _%_, _≤_, _<_, min}
+use Prim.Native.Nat.{ℕ, zero, suc, _+_, _-_, _*_, _≤_, _<_}
 use native.Mathlib.Nat.{div-add-mod'}
 use native.Mathlib.Omega.{arith}
 use mathlib.Core.List.{List}
 use lib.ListN.{length, getD}
-use lib.Ieee.{Float, nan, binary32, add, mul, div}
-use Rattle.float.specs.Values.{f0, f1}
+use lib.Ieee.{Float, nan, binary32, add}
+use Rattle.float.specs.Values.{f0}
 use Rattle.grid.specs.Fold.{fold-ext}
 use Rattle.grid.specs.Fill.{filled}
 use Rattle.grid.specs.Plane.{plane, plane-ext, getD-plane, pixel-in}
 use Rattle.grid.specs.Touch.{filled-same}
-use Rattle.response.specs.Blur.{valueAt, counted, countOf, windowSum, rowMean, columnMean, blurAt, scratched}
+use Rattle.response.specs.Blur.{valueAt, counted, windowSum, rowMean, columnMean, blurAt, scratched}
 
 -- a place of a window is one of the n
 pub place-in : (n r x k : ℕ) → k < counted n r x → x - r + k < n
@@ -25,11 +25,11 @@ windowSum-ext f g n r x e = fold-ext (add binary32) f0 _ _ (counted n r x) (λ k
 
 pub rowMean-ext : (g k : ℕ → ℕ → Float) (w r x y : ℕ) → ((j : ℕ) → j < w → g j y ≡ k j y) → rowMean g w r x y ≡ rowMean k w r x y
 unfolding rowMean
-rowMean-ext g k w r x y e = ap (λ (s : Float). div binary32 s (countOf w r x)) (windowSum-ext (λ j. g j y) (λ j. k j y) w r x e)
+rowMean-ext g k w r x y e = rw (windowSum-ext (λ j. g j y) (λ j. k j y) w r x e)
 
 pub columnMean-ext : (g k : ℕ → ℕ → Float) (h r x y : ℕ) → ((j : ℕ) → j < h → g x j ≡ k x j) → columnMean g h r x y ≡ columnMean k h r x y
 unfolding columnMean
-columnMean-ext g k h r x y e = ap (λ (s : Float). mul binary32 s (div binary32 f1 (countOf h r y))) (windowSum-ext (λ j. g x j) (λ j. k x j) h r y e)
+columnMean-ext g k h r x y e = rw (windowSum-ext (λ j. g x j) (λ j. k x j) h r y e)
 
 pub blurAt-ext : (g k : ℕ → ℕ → Float) (w h r x y : ℕ) → x < w → y < h → ((i j : ℕ) → i < w → j < h → g i j ≡ k i j) → blurAt g w h r x y ≡ blurAt k w h r x y
 unfolding blurAt

@@ -1,6 +1,6 @@
 -- Steps of the blur's proofs: a window's sum grows by one place of every window at a time, the places before the edge and past it left out.
 -- Assumes nothing.
-use mathlib.Core.Path.{_≡_, refl, sym, ap, _∙_}
+use mathlib.Core.Path.{_≡_, refl, ap, _∙_}
 use Prim.Native.Nat.{ℕ, zero, suc, _+_, _-_, _*_, _≤_, _<_, min, max}
 use native.Mathlib.Nat.{add-assoc}
 use native.Mathlib.Decide.{decLe}
@@ -10,7 +10,7 @@ use lib.ListN.{length, getD}
 use lib.IntN.{pos}
 use lib.Ieee.{Float, nan, binary32, add, mul, div, ofInt}
 use Rattle.float.specs.Values.{f0, f1}
-use Rattle.grid.specs.Fold.{fsum, fold-none, fold-on, fold-ext}
+use Rattle.grid.specs.Fold.{fsum, fold-none, fold-on}
 use Rattle.grid.specs.Fill.{filled, filled-ext, length-fill}
 use Rattle.grid.specs.Touch.{touched, length-touched, touched-on, touched-join, Stage, stage-none, stage-more, stage-all}
 use Rattle.response.specs.Blur.{valueAt, counted, countOf, windowSum, rowMean, columnMean}

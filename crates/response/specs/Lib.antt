@@ -11,4 +11,6 @@ pub mod Inner
 pub mod Exact
 pub mod Worked
 pub mod BlurLaws
+pub mod BlurRange
 pub mod BlurSteps
+pub mod BlurWorked

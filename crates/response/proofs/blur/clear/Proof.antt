@@ -1,4 +1,4 @@
--- `clear` meets its contract. Assumes nothing.
+-- `clear` meets its contract: a turn sets one entry. Assumes nothing.
 use mathlib.Core.Path.{refl}
 use Prim.Native.Nat.{_-_}
 use native.Mathlib.Omega.{arith}
