@@ -4,3 +4,4 @@ pub mod Running
 pub mod Columns
 pub mod Rows
 pub mod Composed
+pub mod Cases

@@ -9,7 +9,7 @@ use Rattle.params.specs.declared.RadonDetectorParams.{RadonDetectorParams}
 use Rattle.params.specs.Settings.{factorOf, rayOf}
 use Rattle.params.specs.Answers.{numberOf}
 use Rattle.params.specs.Refusals.{mapRefusalOf}
-use Rattle.params.specs.Accepted.{SizesPass, MapPasses, both-pass, sizes-pass, map-passes, room-passes}
+use Rattle.params.specs.Accepted.{map-accepted}
 use Rattle.response.specs.Map.{Buffers, roomOf, sideOf}
 
 pub record Runs (factor ray blur w h image : ℕ) (b : Buffers) : Type 0 where
@@ -40,14 +40,12 @@ module _ (w h : ℕ) (p : RadonDetectorParams) (image : ℕ) (b : Buffers) where
   -- at the factor, the ray radius and the blur radius that are used
   pub runs-of : {factor ray blur : ℕ} → factor ≡ factorOf (p .«image_upsample») → ray ≡ rayOf (p .«ray_radius») → blur ≡ p .«response_blur_radius»
       → numberOf (mapRefusalOf w h image p (roomOf b)) ≡ 0 → Runs factor ray blur w h image b
-  unfolding mapRefusalOf
   runs-of {factor} {ray} {blur} ef er eb e =
-      let first = both-pass _ _ e in
-      let second = both-pass _ _ (first .1) in
-      let sizes = sizes-pass _ _ _ _ (first .0) in
-      let settings = map-passes _ (second .0) in
+      let passed = map-accepted w h image p (roomOf b) e in
+      let sizes = passed .0 in
+      let settings = passed .1 in
       let n : factor * w * (factor * h) ≡ sideOf w p * sideOf h p = ap (λ (k : ℕ). k * w * (k * h)) ef in
-      let room : factor * w * (factor * h) ≤ roomOf b = le-trans (le-of-eq n) (room-passes _ _ (second .1)) in
+      let room : factor * w * (factor * h) ≤ roomOf b = le-trans (le-of-eq n) (passed .2) in
       let a = both room in
       let c = both (a .1) in
       let tables = both (c .0) in

@@ -43,14 +43,32 @@ fn run(
     scratch: &mut [f32],
 )
     requires { ⌜ Runs factor ray radius w h (length (now img)) (record {
-        working = now working; row = now row; col = now col; pos = now pos; neg = now neg;
-        response = now response; scratch = now scratch }) ⌝ }
+      working = now working;
+      row = now row;
+      col = now col;
+      pos = now pos;
+      neg = now neg;
+      response = now response;
+      scratch = now scratch;
+    }) ⌝ }
     ensures { λ _. ⌜ _≡_ {A = Buffers} (record {
-        working = now (working .exit); row = now (row .exit); col = now (col .exit); pos = now (pos .exit);
-        neg = now (neg .exit); response = now (response .exit); scratch = now (scratch .exit) })
+      working = now (working .exit);
+      row = now (row .exit);
+      col = now (col .exit);
+      pos = now (pos .exit);
+      neg = now (neg .exit);
+      response = now (response .exit);
+      scratch = now (scratch .exit);
+    })
         (mappedBy factor ray radius (pixel (now (img .entry)) w) w h (record {
-        working = now (working .entry); row = now (row .entry); col = now (col .entry); pos = now (pos .entry);
-        neg = now (neg .entry); response = now (response .entry); scratch = now (scratch .entry) })) ⌝ }
+          working = now (working .entry);
+          row = now (row .entry);
+          col = now (col .entry);
+          pos = now (pos .entry);
+          neg = now (neg .entry);
+          response = now (response .entry);
+          scratch = now (scratch .entry);
+        })) ⌝ }
 {
     upsample::upsample(img, w, h, factor, working);
     let ww = (factor as usize) * w;
@@ -75,17 +93,38 @@ pub fn radon_response_u8(
     scratch: &mut [f32],
 ) -> Mapped
     ensures answer { λ r. ⌜ r ≡ mappedOf (now (img .entry)) w h p (record {
-        working = now (working .entry); row = now (row .entry); col = now (col .entry); pos = now (pos .entry);
-        neg = now (neg .entry); response = now (response .entry); scratch = now (scratch .entry) }) ⌝ }
+      working = now (working .entry);
+      row = now (row .entry);
+      col = now (col .entry);
+      pos = now (pos .entry);
+      neg = now (neg .entry);
+      response = now (response .entry);
+      scratch = now (scratch .entry);
+    }) ⌝ }
     ensures buffers { λ _. ⌜ _≡_ {A = Buffers} (record {
-        working = now (working .exit); row = now (row .exit); col = now (col .exit); pos = now (pos .exit);
-        neg = now (neg .exit); response = now (response .exit); scratch = now (scratch .exit) })
+      working = now (working .exit);
+      row = now (row .exit);
+      col = now (col .exit);
+      pos = now (pos .exit);
+      neg = now (neg .exit);
+      response = now (response .exit);
+      scratch = now (scratch .exit);
+    })
         (buffersOf (now (img .entry)) w h p (record {
-        working = now (working .entry); row = now (row .entry); col = now (col .entry); pos = now (pos .entry);
-        neg = now (neg .entry); response = now (response .entry); scratch = now (scratch .entry) })) ⌝ }
+          working = now (working .entry);
+          row = now (row .entry);
+          col = now (col .entry);
+          pos = now (pos .entry);
+          neg = now (neg .entry);
+          response = now (response .entry);
+          scratch = now (scratch .entry);
+        })) ⌝ }
 {
     let tables = smaller(smaller(row.len(), col.len()), smaller(pos.len(), neg.len()));
-    let room = smaller(working.len(), smaller(tables, smaller(response.len(), scratch.len())));
+    let room = smaller(
+        working.len(),
+        smaller(tables, smaller(response.len(), scratch.len())),
+    );
     let answer = params::judge_for_map(w, h, img.len(), p, room);
     if answer.number() != 0 {
         return Mapped { answer, w: 0, h: 0 };
@@ -93,7 +132,21 @@ pub fn radon_response_u8(
     let factor = p.image_upsample_clamped();
     let ray = p.ray_radius_clamped() as usize;
     let radius = p.response_blur_radius as usize;
-    run(img, w, h, factor, ray, radius, working, row, col, pos, neg, response, scratch);
+    run(
+        img,
+        w,
+        h,
+        factor,
+        ray,
+        radius,
+        working,
+        row,
+        col,
+        pos,
+        neg,
+        response,
+        scratch,
+    );
     Mapped {
         answer: Answer::Complete,
         w: (factor as usize) * w,

@@ -1,124 +1,84 @@
-use mathlib.Core.Path.{_≡_, refl, sym, ap, _∙_}
-use Prim.Native.Nat.{ℕ, _+_, _-_, _*_, _≤_, _<_}
-use native.Mathlib.Omega.{arith}
-use lib.ListN.{length, getD}
+-- `response::radon_response_u8` meets its contract: refused, or run. Assumes nothing.
+use mathlib.Core.Path.{_≡_, refl}
+use Prim.Native.Nat.{ℕ, _*_, _≤_}
+use mir.Facts.{fits-le, fits-lit}
+use denote.Ref.{now}
+use lib.ListN.{length}
 use borrow.Author.Needs.{needs}
+use Rattle.response.specs.Map.{Buffers, roomOf}
+use Rattle.response.specs.Runs.{Runs, runs-of, side-most}
+use Rattle.response.proofs.Cases.{room-by, number-zero, when-refused, when-accepted}
 use Rattle.response.proofs.radon_response_u8.Statement.{statement}
 use Rattle.response.proofs.radon_response_u8.Tie as tie
-use Rattle.response.proofs.radon_response_u8.Reads as reads
-use Rattle.response.proofs.radon_response_u8.Lts as lts
-use Rattle.params.proofs.Answer.number.Reads as number-reads
-use Rattle.params.proofs.RadonDetectorParams.image_upsample_clamped.Reads as image-upsample-clamped-reads
-use Rattle.params.proofs.RadonDetectorParams.ray_radius_clamped.Reads as ray-radius-clamped-reads
-use Rattle.params.proofs.judge_for_map.Reads as judge-for-map-reads
-use Rattle.response.proofs.run.Reads as run-reads
-use Rattle.response.proofs.smaller.Reads as smaller-reads
 
-smaller-requires : tie.Need-smaller-requires
-smaller-requires c κs = search needs
+abbrev lent : tie.Start → Buffers
+lent s = record {
+  working = now (s .args .working);
+  row = now (s .args .row);
+  col = now (s .args .col);
+  pos = now (s .args .pos);
+  neg = now (s .args .neg);
+  response = now (s .args .response);
+  scratch = now (s .args .scratch);
+}
 
-smaller-requires-2 : tie.Need-smaller-requires-2
-smaller-requires-2 c κs = search needs
+-- ---- the way back to the answer, and from there to the start
 
-smaller-requires-3 : tie.Need-smaller-requires-3
-smaller-requires-3 c κs = search needs
+abbrev start : tie.After-judge-for-map → tie.Start
+start c = c .before .before .before .before .before .before .before .before .before .before .before .before .before .before .before
 
-smaller-requires-4 : tie.Need-smaller-requires-4
-smaller-requires-4 c κs = search needs
-
-smaller-requires-5 : tie.Need-smaller-requires-5
-smaller-requires-5 c κs = search needs
-
-smaller-requires-6 : tie.Need-smaller-requires-6
-smaller-requires-6 c κs = search needs
-
-judge-for-map-requires : tie.Need-judge-for-map-requires
-judge-for-map-requires c κs = search needs
-
-number-requires : tie.Need-number-requires
-number-requires c κs = search needs
+room-is : (c : tie.After-judge-for-map) → c .before .smaller6 .result ≡ roomOf (lent (start c))
+room-is c = room-by (lent (start c)) (c .before .before .before .before .before .before .smaller .ensures) (c .before .before .before .before .before .smaller2 .ensures) (c .before .before .before .before .smaller3 .ensures) (c .before .before .before .smaller4 .ensures) (c .before .before .smaller5 .ensures) (c .before .smaller6 .ensures)
 
 returns : tie.Need-returns
-returns c = omega arith
+returns c =
+    let j = c .before .before in
+    let s = start j in
+    when-refused (now (s .args .img)) (s .args .w) (s .args .h) (s .args .p) (lent s) (room-is j) (j .judge-for-map .ensures) (c .before .number .ensures) (c .if1 .taken)
 
-image-upsample-clamped-requires : tie.Need-image-upsample-clamped-requires
-image-upsample-clamped-requires c κs = search needs
-
-ray-radius-clamped-requires : tie.Need-ray-radius-clamped-requires
-ray-radius-clamped-requires c κs = search needs
-
-cast-ray : tie.Need-cast-ray
-cast-ray c = search needs
-
-cast-radius : tie.Need-cast-radius
-cast-radius c = search needs
-
-run-requires : tie.Need-run-requires
-run-requires c κs = omega arith
-
-cast-t20 : tie.Need-cast-t20
-cast-t20 c = search needs
-
-mul-t18 : tie.Need-mul-t18
-mul-t18 c = omega arith
-
-cast-t23 : tie.Need-cast-t23
-cast-t23 c = search needs
-
-mul-t22 : tie.Need-mul-t22
-mul-t22 c = omega arith
-
-same-length : tie.Need-same-length
-same-length c = search needs
-
-same-length-2 : tie.Need-same-length-2
-same-length-2 c = search needs
-
-same-length-3 : tie.Need-same-length-3
-same-length-3 c = search needs
-
-same-length-4 : tie.Need-same-length-4
-same-length-4 c = search needs
-
-same-length-5 : tie.Need-same-length-5
-same-length-5 c = search needs
-
-same-length-6 : tie.Need-same-length-6
-same-length-6 c = search needs
-
-same-length-7 : tie.Need-same-length-7
-same-length-7 c = search needs
+-- what the passes ask of the call, from where the answer is known to be 0
+runs : (c : tie.After-ray-radius-clamped) → Runs (c .before .image-upsample-clamped .result) (c .ray-radius-clamped .result) (start (c .before .before .before .before) .args .p .«response_blur_radius») (start (c .before .before .before .before) .args .w) (start (c .before .before .before .before) .args .h) (length (now (start (c .before .before .before .before) .args .img))) (lent (start (c .before .before .before .before)))
+runs c =
+    let j = c .before .before .before .before in
+    let s = start j in
+    runs-of (s .args .w) (s .args .h) (s .args .p) (length (now (s .args .img))) (lent s) (c .before .image-upsample-clamped .ensures) (c .ray-radius-clamped .ensures) refl
+    (number-zero (now (s .args .img)) (s .args .w) (s .args .h) (s .args .p) (lent s) (room-is j) (j .judge-for-map .ensures) (c .before .before .before .number .ensures) (c .before .before .if1 .left))
 
 returns-2 : tie.Need-returns-2
-returns-2 c = omega arith
+returns-2 c =
+    let r = c .before .before .before .before .before .before .before .before .before .before .before .before .before .before .before .before .before .before .before .before .before .before .before in
+    let j = r .before .before .before .before in
+    let s = start j in
+    when-accepted (now (s .args .img)) (s .args .w) (s .args .h) (s .args .p) (lent s) (room-is j) (j .judge-for-map .ensures) (r .before .before .before .number .ensures) (r .before .before .if1 .left)
+    (r .before .image-upsample-clamped .ensures) (r .ray-radius-clamped .ensures) refl (c .before .before .before .before .before .before .before .before .before .before .before .before .before .before .run .ensures)
 
 pub radon-response-u8-spec : {M : Type 1} → statement M
 radon-response-u8-spec =
     tie.close
     (tie.spec
-    smaller-requires
-    smaller-requires-2
-    smaller-requires-3
-    smaller-requires-4
-    smaller-requires-5
-    smaller-requires-6
-    judge-for-map-requires
-    number-requires
+    (λ c κs. search needs)
+    (λ c κs. search needs)
+    (λ c κs. search needs)
+    (λ c κs. search needs)
+    (λ c κs. search needs)
+    (λ c κs. search needs)
+    (λ c κs. search needs)
+    (λ c κs. search needs)
     returns
-    image-upsample-clamped-requires
-    ray-radius-clamped-requires
-    cast-ray
-    cast-radius
-    run-requires
-    cast-t20
-    mul-t18
-    cast-t23
-    mul-t22
-    same-length
-    same-length-2
-    same-length-3
-    same-length-4
-    same-length-5
-    same-length-6
-    same-length-7
+    (λ c κs. search needs)
+    (λ c κs. search needs)
+    (λ c. search needs)
+    (λ c. search needs)
+    (λ c κs. runs (c .before .before .before .before .before .before .before .before))
+    (λ c. search needs)
+    (λ c. fits-le (side-most (runs (c .before .before .before .before .before .before .before .before .before .before .before .before .before .before .before .before .before .before .before .before .before .before .before) .two) (runs (c .before .before .before .before .before .before .before .before .before .before .before .before .before .before .before .before .before .before .before .before .before .before .before) .wide)) (fits-lit tt))
+    (λ c. search needs)
+    (λ c. fits-le (side-most (runs (c .before .before .before .before .before .before .before .before .before .before .before .before .before .before .before .before .before .before .before .before .before .before .before) .two) (runs (c .before .before .before .before .before .before .before .before .before .before .before .before .before .before .before .before .before .before .before .before .before .before .before) .high)) (fits-lit tt))
+    (λ c. search needs)
+    (λ c. search needs)
+    (λ c. search needs)
+    (λ c. search needs)
+    (λ c. search needs)
+    (λ c. search needs)
+    (λ c. search needs)
     returns-2)
