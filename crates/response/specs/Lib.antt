@@ -7,3 +7,4 @@ pub mod Starts
 pub mod Inner
 pub mod Exact
 pub mod Worked
+pub mod Columns
