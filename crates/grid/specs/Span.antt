@@ -7,7 +7,7 @@ use native.Mathlib.Numerals.{add-one}
 use native.Mathlib.Omega.{arith}
 use mathlib.Core.List.{List, [], _∷_}
 use lib.ListN.{length, getD, set, length-set}
-use Rattle.grid.specs.Fill.{filled, filled-zero, filled-ext, fill-step, length-filled, filled-nil}
+use Rattle.grid.specs.Fill.{filled, filled-zero, filled-ext, fill-step, length-filled, filled-nil, getD-filled, getD-beyond}
 use Rattle.grid.specs.Plane.{plane, plane-at}
 use Rattle.grid.specs.Loops.{Row}
 
@@ -42,6 +42,21 @@ module _ {ℓ} {A : Type ℓ} where
   getD-before (suc a) n g [] k d b = refl
   getD-before (suc a) n g (x ∷ xs) zero d b = refl
   getD-before (suc a) n g (x ∷ xs) (suc k) d b = getD-before a n (λ j. g (suc j)) xs k d (le-of-suc-le-suc b)
+
+  -- one of the run, and one behind it
+  pub getD-inside : (a n : ℕ) (g : ℕ → A) (xs : List A) (k : ℕ) (d : A) → a ≤ k → k < a + n → k < length xs → getD (span a n g xs) k d ≡ g k
+  unfolding span
+  getD-inside zero n g xs k d u v b = getD-filled n g xs k d (omega arith) b
+  getD-inside (suc a) n g [] k d u v b = absurd (not-suc-le-zero b)
+  getD-inside (suc a) n g (x ∷ xs) zero d u v b = absurd (not-suc-le-zero u)
+  getD-inside (suc a) n g (x ∷ xs) (suc k) d u v b = getD-inside a n (λ j. g (suc j)) xs k d (le-of-suc-le-suc u) (omega arith) (le-of-suc-le-suc b)
+
+  pub getD-behind : (a n : ℕ) (g : ℕ → A) (xs : List A) (k : ℕ) (d : A) → a + n ≤ k → getD (span a n g xs) k d ≡ getD xs k d
+  unfolding span
+  getD-behind zero n g xs k d b = getD-beyond n g xs k d (omega arith)
+  getD-behind (suc a) n g [] k d b = refl
+  getD-behind (suc a) n g (x ∷ xs) zero d b = absurd (omega arith)
+  getD-behind (suc a) n g (x ∷ xs) (suc k) d b = getD-behind a n (λ j. g (suc j)) xs k d (omega arith)
 
   -- after the first a entries the next n
   pub span-filled : (a n : ℕ) (f g : ℕ → A) (xs : List A) → ((k : ℕ) → a ≤ k → k < a + n → g k ≡ f k) → span a n g (filled a f xs) ≡ filled (a + n) f xs

@@ -22,6 +22,7 @@ use Rattle.float.specs.Ranged.{Ranged, Exact, exact, ranged-sized, ranged-wider
 use Rattle.grid.specs.Fold.{fold, fsum}
 use Rattle.response.specs.Blur.{counted, windowSum, rowMean, columnMean, blurAt}
 use Rattle.response.specs.BlurLaws.{place-in}
+use Rattle.response.specs.Exact.{Whole}
 
 -- zero, or at least a / c and at most n
 abbrev pub ZeroOr : ℕ → ℕ → ℕ → Float → Type 0
@@ -158,17 +159,10 @@ module _ (j : ℕ) (J : j ≤ 90) where
 
 -- ---- eight bits: whole numbers up to 255 * 15 squared
 
--- a whole number from 1 to n
-pub record WholeTo (n : ℕ) (v : Float) : Type 0 where
-  pub size : ℕ
-  pub least : 1 ≤ size
-  pub most : size ≤ n
-  pub value : HasValue v false size 1
-
-pub whole-level : (n m : ℕ) (v : Float) → n ≤ m → (v ≡ f0) ⊎ WholeTo n v → ZeroOr 1 1 m v
+pub whole-level : (n m : ℕ) (v : Float) → n ≤ m → (v ≡ f0) ⊎ Whole n v → ZeroOr 1 1 m v
 whole-level n m v b (inl p) = inl p
-whole-level n m v b (inr q) = inr (ranged-whole m (q .size) v (q .value) (q .least) (omega arith))
+whole-level n m v b (inr q) = inr (ranged-whole m (q .n) v (q .is) (q .least) (omega (arith, q .greatest)))
 
-pub blur-eight : (g : ℕ → ℕ → Float) (w h r x y : ℕ) → r ≤ 3 → x < w → y < h → ((i k : ℕ) → i < w → k < h → (g i k ≡ f0) ⊎ WholeTo 14630625 (g i k))
+pub blur-eight : (g : ℕ → ℕ → Float) (w h r x y : ℕ) → r ≤ 3 → x < w → y < h → ((i k : ℕ) → i < w → k < h → (g i k ≡ f0) ⊎ Whole 14630625 (g i k))
     → (blurAt g w h r x y ≡ f0) ⊎ (T (le (fin false 1 (negsuc 5)) (blurAt g w h r x y)) × T (le (blurAt g w h r x y) (fin false 1 (pos 24))))
 blur-eight g w h r x y b a c e = blur-bounds 20 (lit≤ tt) g w h r x y b a c (λ i k m l. whole-level 14630625 (15 * 2 ^ 20) (g i k) (lit≤ tt) (e i k m l))

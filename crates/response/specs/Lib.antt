@@ -5,6 +5,7 @@ pub mod Blur
 pub mod Map
 pub mod Runs
 pub mod Quarter
+pub mod Columns
 pub mod Tables
 pub mod Starts
 pub mod Inner
@@ -14,3 +15,4 @@ pub mod BlurLaws
 pub mod BlurRange
 pub mod BlurSteps
 pub mod BlurWorked
+pub mod MapFacts

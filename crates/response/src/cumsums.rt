@@ -1,11 +1,18 @@
 // The four tables: running sums of an image along its rows, its columns, and its falling and rising diagonals.
 ghost use mathlib.Core.Path.{_≡_};
-ghost use Prim.Native.Nat.{ℕ, _+_, _-_, _*_, _<_, _≤_};
+ghost use Prim.Native.Nat.{ℕ, _+_, _-_, _*_, _<_, _≤_, min};
 ghost use lib.ListN.{length, getD};
 ghost use Rattle.grid.specs.Fill.{filled};
 ghost use Rattle.grid.specs.Plane.{plane};
 ghost use Rattle.grid.specs.Span.{span};
 ghost use Rattle.grid.specs.Ways.{pixel, along, down, fall, rise, runSum};
+ghost use Rattle.response.specs.Columns.{Strip};
+
+fn lesser(a: usize, b: usize) -> usize
+    ensures { λ m. ⌜ m ≡ min a b ⌝ }
+{
+    if a < b { a } else { b }
+}
 
 // Along each row, from the left.
 pub fn sat_row(img: &[u8], w: usize, h: usize, out: &mut [u32])
@@ -22,20 +29,6 @@ pub fn sat_row(img: &[u8], w: usize, h: usize, out: &mut [u32])
     }
 }
 
-// Down each column, from the top.
-pub fn sat_col(img: &[u8], w: usize, h: usize, out: &mut [u32])
-    requires { ⌜ (w ≤ 8192) × (h ≤ 8192) × (w * h ≤ length (now img)) × (w * h ≤ length (now out)) ⌝ }
-    ensures { λ _. ⌜ now (out .exit) ≡ filled (w * h) (plane w (runSum down (pixel (now (img .entry)) w) w)) (now (out .entry)) ⌝ }
-{
-    for x in 0..w {
-        let mut acc: u32 = 0;
-        for y in 0..h {
-            acc += img[y * w + x] as u32;
-            out[y * w + x] = acc;
-        }
-    }
-}
-
 // Entries a to e - 1, where lines begin.
 fn begin(img: &[u8], a: usize, e: usize, out: &mut [u32])
     requires { ⌜ (a ≤ e) × (e ≤ length (now img)) × (e ≤ length (now out)) ⌝ }
@@ -48,11 +41,39 @@ fn begin(img: &[u8], a: usize, e: usize, out: &mut [u32])
 
 // Entries a to e - 1, whose lines go on from the entry that is `back` before, in the row above: no branch, and no entry leans on another of the run.
 fn carry(img: &[u8], a: usize, e: usize, back: usize, out: &mut [u32])
-    requires { ⌜ (a ≤ e) × (back ≤ a) × (e ≤ a + back) × (e ≤ length (now img)) × (e ≤ length (now out)) × ((k : ℕ) → k < a → getD (now out) k 0 ≤ 255 * 8192) ⌝ }
+    requires { ⌜ (a ≤ e) × (back ≤ a) × (e ≤ a + back) × (e ≤ length (now img)) × (e ≤ length (now out)) × ((k : ℕ) → a ≤ k + back → k + back < e → getD (now out) k 0 ≤ 255 * 8192) ⌝ }
     ensures { λ _. ⌜ now (out .exit) ≡ span a (e - a) (λ i. getD (now (img .entry)) i 0 + getD (now (out .entry)) (i - back) 0) (now (out .entry)) ⌝ }
 {
     for i in a..e {
         out[i] = img[i] as u32 + out[i - back];
+    }
+}
+
+// The columns a to e - 1, from the top.
+fn strip(img: &[u8], w: usize, h: usize, a: usize, e: usize, out: &mut [u32])
+    requires { ⌜ (w ≤ 8192) × (0 < h) × (h ≤ 8192) × (a ≤ e) × (e ≤ w) × (w * h ≤ length (now img)) × (w * h ≤ length (now out)) ⌝ }
+    ensures { λ _. ⌜ Strip w h (runSum down (pixel (now (img .entry)) w) w) (now (out .entry)) (now (out .exit)) a e h ⌝ }
+{
+    begin(img, a, e, out);
+    for y in 1..h {
+        let row = y * w;
+        carry(img, row + a, row + e, w, out);
+    }
+}
+
+// Down each column, from the top: 64 columns at a time, since one alone would jump a whole row at every step.
+pub fn sat_col(img: &[u8], w: usize, h: usize, out: &mut [u32])
+    requires { ⌜ (w ≤ 8192) × (h ≤ 8192) × (w * h ≤ length (now img)) × (w * h ≤ length (now out)) ⌝ }
+    ensures { λ _. ⌜ now (out .exit) ≡ filled (w * h) (plane w (runSum down (pixel (now (img .entry)) w) w)) (now (out .entry)) ⌝ }
+{
+    if h == 0 {
+        return;
+    }
+    let mut x = 0;
+    while x < w {
+        let e = lesser(x + 64, w);
+        strip(img, w, h, x, e, out);
+        x = e;
     }
 }
 

@@ -29,7 +29,7 @@ carry-spec =
     let l = c .before .before .before .loop in
     let s = c .before .before .before .before in
     let k = l .i - s .args .back in
-    omega (arith, spanning-before _ _ _ _ (l .inv) k 0 (omega arith), s .pre .5 k (omega arith), c .before .shared-slice-known .given (l .i)))
+    omega (arith, spanning-before _ _ _ _ (l .inv) k 0 (omega arith), s .pre .5 k (omega arith) (omega arith), c .before .shared-slice-known .given (l .i)))
     (λ c. omega arith)
     (λ c. omega arith)
     (λ c. omega arith)

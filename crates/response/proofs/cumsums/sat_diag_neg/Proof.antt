@@ -50,7 +50,7 @@ sat-diag-neg-spec =
       omega arith,
       omega arith,
       omega arith,
-      λ k b. sums-most rise (pixel (s .args .img .now) (s .args .w)) 255 8192 _ _ _ (row-none _ _ _ _ (c .before .before .loop .inv .1) (c .before .loop-test .taken)) (λ x y. omega (arith, c .before .before .before .before .before .before .before .before .before .before .shared-slice-known .given (y * s .args .w + x))) (omega arith) (omega arith) (omega arith) k (omega arith),
+      λ k u v. sums-most rise (pixel (s .args .img .now) (s .args .w)) 255 8192 _ _ _ (row-none _ _ _ _ (c .before .before .loop .inv .1) (c .before .loop-test .taken)) (λ x y. omega (arith, c .before .before .before .before .before .before .before .before .before .before .shared-slice-known .given (y * s .args .w + x))) (omega arith) (omega arith) (omega arith) k (omega arith),
     ))
     (λ c. omega (arith, row-in (c .before .before .before .before .before .before .before .before .before .before .before .before .before .before .args .w) (c .before .before .before .before .loop-test .taken)))
     (λ c. omega (arith, row-in (c .before .before .before .before .before .before .before .before .before .before .before .before .before .before .args .w) (c .before .before .before .before .loop-test .taken)))

@@ -54,7 +54,7 @@ sat-diag-pos-spec =
       omega arith,
       omega arith,
       omega arith,
-      sums-most fall (pixel (s .args .img .now) (s .args .w)) 255 8192 _ _ _ (row-begun fall (c .before .before .before .before .before .before .before .before .before .before .before .before .before .before .before .args .img .now) _ _ _ (row-none _ _ _ _ (c .before .before .before .before .before .before .loop .inv .1) (c .before .before .before .before .before .loop-test .taken)) (omega arith) (omega arith) (omega arith) refl (c .before .before .before .begin2 .ensures) (λ x l b. omega arith)) (λ x y. omega (arith, c .before .before .before .before .before .before .before .before .before .before .before .before .before .before .shared-slice-known .given (y * s .args .w + x))) (omega arith) (omega arith) (omega arith),
+      λ k u v. sums-most fall (pixel (s .args .img .now) (s .args .w)) 255 8192 _ _ _ (row-begun fall (c .before .before .before .before .before .before .before .before .before .before .before .before .before .before .before .args .img .now) _ _ _ (row-none _ _ _ _ (c .before .before .before .before .before .before .loop .inv .1) (c .before .before .before .before .before .loop-test .taken)) (omega arith) (omega arith) (omega arith) refl (c .before .before .before .begin2 .ensures) (λ x l b. omega arith)) (λ x y. omega (arith, c .before .before .before .before .before .before .before .before .before .before .before .before .before .before .shared-slice-known .given (y * s .args .w + x))) (omega arith) (omega arith) (omega arith) k (omega arith),
     ))
     (λ c. omega arith)
     (λ c. omega arith)
