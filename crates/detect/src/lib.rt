@@ -1,3 +1,6 @@
-// The corner list: which pixels of a response map are corners, and where each lies between pixels.
+// The list: which pixels of the map are corners, and where between the pixels each one lies.
 mod above;
 mod neighbors;
+mod peak_fit;
+mod saddle;
+mod verdict;
