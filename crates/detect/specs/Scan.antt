@@ -1,13 +1,16 @@
 -- What the scan's private functions hand each other. Steps of proofs. Assumes nothing.
 use mathlib.Core.Path.{_≡_, refl, sym, ap, _∙_}
 use mathlib.Core.Bool.{Bool, true, false, not}
-use Prim.Native.Nat.{ℕ, _+_, _-_, _*_, _≤_, _<_, max}
+use Prim.Native.Nat.{ℕ, _+_, _-_, _*_, _/_, _≤_, _<_, _^_, max}
 use native.Mathlib.Omega.{arith}
 use mathlib.Core.List.{List}
-use lib.ListN.{length}
-use lib.Dec.{leb}
-use lib.Ieee.{Float, lt}
-use Rattle.grid.specs.Rect.{Place, place}
+use lib.ListN.{length, set, take, drop, length-take, length-drop}
+use lib.Seq.{sets, getD-take, getD-drop}
+use lib.Dec.{T, leb, le→leb}
+use lib.IntN.{pos}
+use lib.Ieee.{Float, nan, binary32, lt, inFloat}
+use Rattle.grid.specs.Rect.{Place, place, rect, Across, across-none, across-more, across-skip, down-more}
+use Rattle.grid.specs.Over.{Onward, onward-none, onward-no, onward-full, onward-put, sets-three}
 use Rattle.grid.specs.Ways.{Inside}
 use Rattle.params.specs.declared.RadonDetectorParams.{RadonDetectorParams}
 use Rattle.params.specs.Settings.{rayOf}
@@ -16,9 +19,11 @@ use Rattle.detect.specs.declared.saddle.Saddle.{Saddle}
 use Rattle.detect.specs.declared.verdict.Verdict.{Verdict}
 use Rattle.detect.specs.Saddle.{saddleOf, saddleAt}
 use Rattle.detect.specs.Around.{Around}
-use Rattle.detect.specs.Window.{at, beaten, positives}
-use Rattle.detect.specs.Corners.{borderOf, firstFailing, isSaddle, verdict}
-use Rattle.detect.specs.Room.{Room}
+use Rattle.detect.specs.Window.{value, at, beaten, positives}
+use Rattle.detect.specs.PeakFit.{fitOf}
+use Rattle.detect.specs.Above.{entry, over, Next}
+use Rattle.detect.specs.Corners.{borderOf, firstFailing, isSaddle, isKept, verdict, stride, inputAt, numbers}
+use Rattle.detect.specs.Room.{Room, cross}
 
 -- a map w wide and h high, for which the two buffers have room, is judged by settings in range and the saddle numbers of their radius
 pub record Judging (s : RadonDetectorParams) (t : SaddleTest) (w h resp image : ℕ) : Type 0 where
@@ -29,6 +34,32 @@ pub record Judging (s : RadonDetectorParams) (t : SaddleTest) (w h resp image : 
   pub test : t ≡ saddleOf (rayOf (s .«ray_radius»))
   pub response : w * h ≤ resp
   pub working : w * h ≤ image
+
+-- what the scan asks: sizes, settings and buffers that fit
+pub record Asked (s : RadonDetectorParams) (w h resp image : ℕ) : Type 0 where
+  pub wide : w ≤ 8192
+  pub high : h ≤ 8192
+  pub ray : s .«ray_radius» ≤ 7
+  pub suppression : s .«nms_radius» ≤ 32
+  pub response : w * h ≤ resp
+  pub working : w * h ≤ image
+
+-- a row y of candidates, with n corners found above it
+pub record Finding (s : RadonDetectorParams) (t : SaddleTest) (w h y n resp image : ℕ) : Type 0 where
+  pub judging : Judging s t w h resp image
+  pub wider : borderOf s + borderOf s < w
+  pub above : borderOf s ≤ y
+  pub below : y + borderOf s < h
+  pub few : n ≤ 8192 * y
+
+-- a candidate's test in the scan
+abbrev pub passes : RadonDetectorParams → Float → (ℕ → ℕ → Float) → (ℕ → ℕ → ℕ) → Place → Bool
+passes s floor f g p = isKept (verdict s floor f g p)
+
+-- what the rows above y have, with row y besides: whatever the list held
+pub record RowFound (s : RadonDetectorParams) (floor : Float) (w h : ℕ) (f : ℕ → ℕ → Float) (g : ℕ → ℕ → ℕ) (y : ℕ) (mid : List Float) (n : ℕ) (out : List Float) (r : ℕ) : Type 0 where
+  pub onward : Onward stride (numbers s f) (passes s floor f g) mid n (rect (borderOf s) (w - borderOf s) (borderOf s) y) out r (rect (borderOf s) (w - borderOf s) (borderOf s) (y + 1))
+  pub few : r ≤ n + w
 
 -- x and y are a candidate of it
 pub record Candidate (s : RadonDetectorParams) (t : SaddleTest) (w h x y resp image : ℕ) : Type 0 where
@@ -63,3 +94,89 @@ module _ (s : RadonDetectorParams) (floor : Float) (f : ℕ → ℕ → Float) (
 
   pub saddle-is : {t : SaddleTest} {k : ℕ} {d : Saddle} → t ≡ saddleOf (rayOf (s .«ray_radius»)) → k ≡ rayOf (s .«ray_radius») → d ≡ saddleAt t k g (p .x) (p .y) → d ≡ isSaddle s g p
   saddle-is a b e = rw (← a, ← b) e
+
+-- a coordinate is a float as it is
+pub coordinate : (n : ℕ) → n ≤ 8192 → T (inFloat binary32 (pos n))
+unfolding inFloat
+coordinate n h = le→leb n (2 ^ 24) (omega arith)
+
+-- ---- the scan at x of row y: `mid` and m are the list and the count with which the row began
+
+pub record Scanned (s : RadonDetectorParams) (floor : Float) (w h : ℕ) (f : ℕ → ℕ → Float) (g : ℕ → ℕ → ℕ) (y : ℕ) (mid : List Float) (m : ℕ) (out : List Float) (n x : ℕ) : Type 0 where
+  pub across : Across (Onward stride (numbers s f) (passes s floor f g) mid m (rect (borderOf s) (w - borderOf s) (borderOf s) y) out n) (borderOf s) (w - borderOf s) (borderOf s) (h - borderOf s) y x
+  pub few : n ≤ m + x
+
+-- ---- a corner's numbers, stored
+
+pub numbers-long : (s : RadonDetectorParams) (f : ℕ → ℕ → Float) (p : Place) → length (numbers s f p) ≡ stride
+unfolding numbers
+numbers-long s f p = refl
+
+module _ (s : RadonDetectorParams) (l r : List Float) (n w : ℕ) {h x y : ℕ} (m : Room w h 1 x y (length r)) where
+  pub stored : {fx fy a b : Float}
+      → fx ≡ fitOf (s .«peak_fit») (entry r (y * w + x - 1)) (entry r (y * w + x)) (entry r (y * w + x + 1))
+      → fy ≡ fitOf (s .«peak_fit») (entry r (y * w + x - w)) (entry r (y * w + x)) (entry r (y * w + x + w))
+      → a ≡ inputAt (s .«image_upsample») x fx → b ≡ inputAt (s .«image_upsample») y fy
+      → set (set (set l (3 * n) a) (3 * n + 1) b) (3 * n + 2) (entry r (y * w + x)) ≡ sets l (stride * n) (numbers s (value r w) (place x y))
+  unfolding numbers
+  stored {fx} {fy} {a} {b} e1 e2 e3 e4 =
+      let k = cross m in
+      let i : y * w + x - 1 ≡ y * w + (x - 1) = omega arith in
+      let j : y * w + x + 1 ≡ y * w + (x + 1) = omega arith in
+      let u : y * w + x - w ≡ (y - 1) * w + x = omega arith in
+      let d : y * w + x + w ≡ (y + 1) * w + x = omega arith in
+      rw (sets-three, e3, e4, e1, e2, i, j, u, d)
+
+-- ---- a run of places that are not above the floor
+
+pub not-above : (s : RadonDetectorParams) (floor : Float) (f : ℕ → ℕ → Float) (g : ℕ → ℕ → ℕ) (p : Place) → lt floor (at f p) ≡ false → passes s floor f g p ≡ false
+unfolding verdict
+not-above s floor f g p e = rw e
+
+-- the part of row y that the code searches, b columns short of its end
+abbrev pub rowPart : List Float → ℕ → ℕ → ℕ → List Float
+rowPart r w y b = take (y * w + (w - b) - y * w) (drop (y * w) r)
+
+module _ (r : List Float) (w y b : ℕ) (fits : y * w + w ≤ length r) where
+  pub row-length : length (rowPart r w y b) ≡ w - b
+  row-length = simp (length-take, length-drop) (omega arith)
+
+  row-value : (k : ℕ) → k < w - b → entry (rowPart r w y b) k ≡ value r w k y
+  row-value k l = getD-take (y * w + (w - b) - y * w) (drop (y * w) r) k nan (omega arith) ∙ getD-drop (y * w) r k nan
+
+  module _ {s : RadonDetectorParams} {floor : Float} {h : ℕ} {g : ℕ → ℕ → ℕ} {mid : List Float} {m : ℕ} {out : List Float} {n x a i : ℕ}
+      (c : Scanned s floor w h (value r w) g y mid m out n x) (e : b ≡ borderOf s) (j : a ≡ x) (t : Next (over floor (rowPart r w y b)) a (length (rowPart r w y b)) i) where
+    pub run-over : Scanned s floor w h (value r w) g y mid m out n i
+    run-over =
+        let q : x + (i - x) ≡ i = omega arith in
+        record {
+          across = rw q at (across-skip _ _ _ _ _ (i - x) (c .across) (omega (arith, row-length)) (λ k u v o. onward-no _ _ _ _ _ _ _ _ o
+              (not-above s floor (value r w) g (place k y) (ap (lt floor) (sym (row-value k (omega (arith, row-length)))) ∙ t .none k (omega arith) (omega arith)))));
+          few = omega arith;
+        }
+
+-- ---- a turn of the scan, from the equations that the code's branches hand over
+
+module _ {s : RadonDetectorParams} {floor : Float} {w h : ℕ} {f : ℕ → ℕ → Float} {g : ℕ → ℕ → ℕ} {y : ℕ} {mid : List Float} {m : ℕ} {out new : List Float} {n k x : ℕ}
+    (c : Scanned s floor w h f g y mid m out n x) (b : x < w - borderOf s) where
+  pub turn-no : passes s floor f g (place x y) ≡ false → new ≡ out → k ≡ n → Scanned s floor w h f g y mid m new k (x + 1)
+  turn-no e p q = record { across = across-more _ _ _ _ _ _ (c .across) b (λ o. rw (p, q) (onward-no _ _ _ _ _ _ _ _ o e)); few = omega arith }
+
+  pub turn-full : passes s floor f g (place x y) ≡ true → length mid / stride ≤ n → new ≡ out → k ≡ n + 1 → Scanned s floor w h f g y mid m new k (x + 1)
+  turn-full e l p q = record { across = across-more _ _ _ _ _ _ (c .across) b (λ o. rw (p, q) (onward-full _ _ _ _ _ _ _ _ o e l)); few = omega arith }
+
+  pub turn-put : passes s floor f g (place x y) ≡ true → n < length mid / stride → new ≡ sets out (stride * n) (numbers s f (place x y)) → k ≡ n + 1
+      → Scanned s floor w h f g y mid m new k (x + 1)
+  turn-put e l p q = record { across = across-more _ _ _ _ _ _ (c .across) b (λ o. rw q (onward-put _ _ _ _ _ _ _ _ (numbers-long s f) o e l p)); few = omega arith }
+
+pub scan-none : (s : RadonDetectorParams) (floor : Float) (w h : ℕ) (f : ℕ → ℕ → Float) (g : ℕ → ℕ → ℕ) (y : ℕ) (mid : List Float) (m : ℕ)
+    → borderOf s + borderOf s < w → borderOf s ≤ y → y + borderOf s < h → Scanned s floor w h f g y mid m mid m (borderOf s)
+scan-none s floor w h f g y mid m a b c = record { across = across-none _ _ _ _ _ y (omega arith) b (omega arith) (onward-none _ _ _ _ _ _); few = omega arith }
+
+pub scan-all : {s : RadonDetectorParams} {floor : Float} {w h : ℕ} {f : ℕ → ℕ → Float} {g : ℕ → ℕ → ℕ} {y : ℕ} {mid : List Float} {m : ℕ} {out : List Float} {n x : ℕ}
+    → Scanned s floor w h f g y mid m out n x → w - borderOf s ≤ x → RowFound s floor w h f g y mid m out n
+scan-all c b = record { onward = down-more _ _ _ _ _ (c .across) b .holds; few = omega arith }
+
+-- a search that goes on past x comes nearer the end
+pub nearer : (e x i : ℕ) → x < e → x + 1 ≤ i → e - i < e - x
+nearer e x i a b = omega arith

@@ -2,5 +2,6 @@
 mod above;
 mod neighbors;
 mod peak_fit;
+mod peaks;
 mod saddle;
 mod verdict;

@@ -31,7 +31,15 @@ pub fn new(k: usize) -> SaddleTest
     }
 }
 
-pub fn accepts(t: SaddleTest, k: usize, image: &[u8], w: usize, h: usize, x: usize, y: usize) -> Saddle
+pub fn accepts(
+    t: SaddleTest,
+    k: usize,
+    image: &[u8],
+    w: usize,
+    h: usize,
+    x: usize,
+    y: usize,
+) -> Saddle
     requires { ⌜ Around k (length (now image)) w h x y ⌝ }
     ensures { λ r. ⌜ r ≡ saddleAt t k (pixel (now (image .entry)) w) x y ⌝ }
 {

@@ -219,6 +219,14 @@ pub across-more : (S S′ : List Place → Type 0) (ax ex ay ey : ℕ) {y x : �
 across-more S S′ ax ex ay ey {y} {x} c l f =
     record { least = omega arith; most = omega arith; low = c .low; high = c .high; holds = rw (before-more ax ex ay x y (c .least)) (f (c .holds)) }
 
+-- turns that are passed over: the state stays as it is
+pub across-skip : (S : List Place → Type 0) (ax ex ay ey : ℕ) (d : ℕ) {y x : ℕ} → Across S ax ex ay ey y x → x + d ≤ ex
+    → ((k : ℕ) → x ≤ k → k < x + d → S (before ax ex ay k y) → S (before ax ex ay k y ++ (place k y ∷ []))) → Across S ax ex ay ey y (x + d)
+across-skip S ax ex ay ey zero c l f = rw add-zero c
+across-skip S ax ex ay ey (suc d) {y} {x} c l f =
+    let e : x + suc d ≡ x + d + 1 = omega arith in
+    rw e (across-more S S ax ex ay ey (across-skip S ax ex ay ey d c (omega arith) (λ k a b. f k a (omega arith))) (omega arith) (f (x + d) (omega arith) (omega arith)))
+
 -- what is found at a place inside, the rectangle has
 pub any-in : (p : Place → Bool) (ax ex ay ey x y : ℕ) → ax ≤ x → x < ex → ay ≤ y → y < ey → p (place x y) ≡ true → any p (rect ax ex ay ey) ≡ true
 any-in p ax ex ay ey x y a b c d e = rw (rect-at ax ex ay ey x y a b c d) (any-yes p (before ax ex ay x y) (place x y) (after ax ex ay ey x y) e)
