@@ -1,16 +1,22 @@
 -- What the scan's private functions hand each other. Steps of proofs. Assumes nothing.
 use mathlib.Core.Path.{_≡_, refl, sym, ap, _∙_}
+use mathlib.Core.Logic.{_⊎_, inl, inr}
 use mathlib.Core.Bool.{Bool, true, false, not}
 use Prim.Native.Nat.{ℕ, _+_, _-_, _*_, _/_, _≤_, _<_, _^_, max}
 use native.Mathlib.Omega.{arith}
-use mathlib.Core.List.{List}
-use lib.ListN.{length, set, take, drop, length-take, length-drop}
-use lib.Seq.{sets, getD-take, getD-drop}
+use mathlib.Core.List.{List, [], _∷_}
+use native.Mathlib.Nat.{zero-mul, mul-zero, div-add-mod'}
+use lib.ListN.{length, getD, set, take, drop, length-take, length-drop}
+use lib.Seq.{sets, length-take-le, getD-take, getD-drop}
 use lib.Dec.{T, leb, le→leb}
 use lib.IntN.{pos}
-use lib.Ieee.{Float, nan, binary32, lt, inFloat}
-use Rattle.grid.specs.Rect.{Place, place, rect, Across, across-none, across-more, across-skip, down-more}
-use Rattle.grid.specs.Over.{Onward, onward-none, onward-no, onward-full, onward-put, sets-three}
+use lib.Ieee.{Float, nan, binary32, lt, mul, inFloat}
+use Rattle.float.specs.Values.{f0}
+use Rattle.grid.specs.Fold.{fold, fold-ext}
+use Rattle.grid.specs.Plane.{plane}
+use Rattle.grid.specs.Each.{keep-none}
+use Rattle.grid.specs.Rect.{Place, place, rect, Across, across-none, across-more, across-skip, down-more, Down, down-none, down-all, length-rect}
+use Rattle.grid.specs.Over.{written, Listed, listed-none, Onward, onward-none, onward-no, onward-full, onward-put, sets-three}
 use Rattle.grid.specs.Ways.{Inside}
 use Rattle.params.specs.declared.RadonDetectorParams.{RadonDetectorParams}
 use Rattle.params.specs.Settings.{rayOf}
@@ -22,7 +28,7 @@ use Rattle.detect.specs.Around.{Around}
 use Rattle.detect.specs.Window.{value, at, beaten, positives}
 use Rattle.detect.specs.PeakFit.{fitOf}
 use Rattle.detect.specs.Above.{entry, over, Next}
-use Rattle.detect.specs.Corners.{borderOf, firstFailing, isSaddle, isKept, verdict, stride, inputAt, numbers}
+use Rattle.detect.specs.Corners.{borderOf, candidates, greater, peak, floorOf, corners, firstFailing, isSaddle, isKept, verdict, stride, inputAt, numbers}
 use Rattle.detect.specs.Room.{Room, cross}
 
 -- a map w wide and h high, for which the two buffers have room, is judged by settings in range and the saddle numbers of their radius
@@ -180,3 +186,58 @@ scan-all c b = record { onward = down-more _ _ _ _ _ (c .across) b .holds; few =
 -- a search that goes on past x comes nearer the end
 pub nearer : (e x i : ℕ) → x < e → x + 1 ≤ i → e - i < e - x
 nearer e x i a b = omega arith
+
+-- ---- the scan over the rows: what is found above row y
+
+pub record FoundTo (s : RadonDetectorParams) (floor : Float) (w h : ℕ) (f : ℕ → ℕ → Float) (g : ℕ → ℕ → ℕ) (old out : List Float) (n y : ℕ) : Type 0 where
+  pub down : Down (Listed stride (numbers s f) (passes s floor f g) old out n) (borderOf s) (w - borderOf s) (borderOf s) (h - borderOf s) y
+  pub few : n ≤ 8192 * y
+
+pub found-none : (s : RadonDetectorParams) (floor : Float) (w h : ℕ) (f : ℕ → ℕ → Float) (g : ℕ → ℕ → ℕ) (old : List Float) {y : ℕ} → y ≡ borderOf s → borderOf s + borderOf s < h
+    → FoundTo s floor w h f g old old 0 y
+found-none s floor w h f g old e b = rw e (record { down = down-none _ _ _ _ _ (omega arith) (listed-none _ _ _ _); few = omega arith })
+
+module _ {s : RadonDetectorParams} {floor : Float} {w h : ℕ} {f : ℕ → ℕ → Float} {g : ℕ → ℕ → ℕ} {old out : List Float} {n y : ℕ} (c : FoundTo s floor w h f g old out n y) where
+  pub found-more : {new : List Float} {r : ℕ} → y < h - borderOf s → w ≤ 8192 → RowFound s floor w h f g y out n new r → FoundTo s floor w h f g old new r (y + 1)
+  found-more b l q = record { down = record { least = omega arith; most = omega arith; holds = q .onward .on old (c .down .holds) }; few = omega arith }
+
+  pub found-all : h - borderOf s ≤ y → floor ≡ floorOf s w h f
+      → (n ≡ length (corners s w h f g)) × (out ≡ written stride (numbers s f) (corners s w h f g) old)
+  unfolding corners
+  found-all b e =
+      let l = down-all _ _ _ _ _ (c .down) b in
+      (rw e at (l .count), rw e at (l .fill))
+
+-- "W or H at most twice the border finds nothing"
+empty : {A : Type 0} (l : List A) → length l ≡ 0 → l ≡ []
+empty [] e = refl
+empty (a ∷ l) e = absurd (omega arith)
+
+pub too-small : (s : RadonDetectorParams) (w h : ℕ) (f : ℕ → ℕ → Float) (g : ℕ → ℕ → ℕ) → (w ≤ 2 * borderOf s) ⊎ (h ≤ 2 * borderOf s) → corners s w h f g ≡ []
+unfolding corners
+too-small s w h f g c =
+    let b = borderOf s in
+    let z : length (candidates w h b) ≡ 0 = length-rect b (w - b) b (h - b) ∙ elim c [
+      | inl k ↦ ap (λ (i : ℕ). i * (h - b - b)) (omega arith) ∙ zero-mul (h - b - b)
+      | inr k ↦ ap (λ (i : ℕ). (w - b - b) * i) (omega arith) ∙ mul-zero (w - b - b)
+    ] in
+    rw (empty (candidates w h b) z) (keep-none _)
+
+pub none-found : (s : RadonDetectorParams) (w h : ℕ) (f : ℕ → ℕ → Float) (g : ℕ → ℕ → ℕ) (old : List Float) → (w ≤ 2 * borderOf s) ⊎ (h ≤ 2 * borderOf s)
+    → (0 ≡ length (corners s w h f g)) × (old ≡ written stride (numbers s f) (corners s w h f g) old)
+none-found s w h f g old c =
+    let l = listed-none stride (numbers s f) (λ p. true) old in
+    rw (too-small s w h f g c) (refl, rw keep-none at (l .fill))
+
+-- ---- the floor
+
+pub peak-is : (r : List Float) (w h : ℕ) → w * h ≤ length r → fold greater f0 (entry (take (w * h) r)) (length (take (w * h) r)) ≡ peak w h (value r w)
+unfolding peak plane
+peak-is r w h l =
+    let n : length (take (w * h) r) ≡ w * h = length-take-le (w * h) r l in
+    rw n (fold-ext greater f0 _ _ (w * h) (λ k b. getD-take (w * h) r k nan b ∙ ap (λ (i : ℕ). getD r i nan) (sym (div-add-mod' k w))))
+
+pub floor-is : (s : RadonDetectorParams) (r : List Float) (w h : ℕ) {m : Float} → w * h ≤ length r → m ≡ fold greater f0 (entry (take (w * h) r)) (length (take (w * h) r))
+    → mul binary32 (s .«threshold_rel») m ≡ floorOf s w h (value r w)
+unfolding floorOf
+floor-is s r w h l e = ap (mul binary32 (s .«threshold_rel»)) (e ∙ peak-is r w h l)
