@@ -3,7 +3,9 @@ pub mod Saddle
 pub mod PeakFit
 pub mod Window
 pub mod Corners
+pub mod Detected
 pub mod Around
 pub mod Above
 pub mod Room
 pub mod Scan
+pub mod Allowed
