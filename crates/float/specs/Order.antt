@@ -1,12 +1,13 @@
 -- The order of floats: what is at most y, with y below z, is below z, for every float, both zeros and the infinities included. Assumes nothing.
 use mathlib.Core.Path.{_≡_, sym, ap, _∙_}
 use mathlib.Core.Logic.{_⊎_, inl, inr}
-use mathlib.Core.Bool.{_||_, Bool, true, false, _&&_}
+use mathlib.Core.Bool.{_||_, Bool, true, false, _&&_, or-true, true≢false}
+use borrow.Author.Tests.{ltb-false, lt-ltb, eq-eqb}
 use Prim.Native.Nat.{ℕ, _+_, _*_, _≤_, _<_}
-use native.Mathlib.Nat.{le-of-lt, le-of-eq, mul-right-comm, eq-zero-or-pos, mul-le-mul-right, mul-lt-mul-of-pos-right, lt-of-mul-lt-mul-right, mul-pos, zero-mul}
+use native.Mathlib.Nat.{le-of-lt, le-of-eq, mul-right-comm, eq-zero-or-pos, eq-or-lt-of-le, mul-le-mul-right, mul-lt-mul-of-pos-right, lt-of-mul-lt-mul-right, mul-pos, zero-mul}
 use native.Mathlib.Omega.{arith}
 use lib.Dec.{T, ltb, eqb, eqb→eq, ltb→lt, lt→ltb}
-use lib.Ieee.{Float, nan, inf, fin, up, down, lt, le, eq}
+use lib.Ieee.{Float, nan, inf, fin, up, down, lt, le, eq, isNan}
 use lib.Ieee.Fits.{down-pos, and-l, and-r}
 use lib.Ieee.Positive.{first-pos}
 
@@ -118,3 +119,44 @@ lt-le x y t = go (lt x y) (eq x y) t
     go : (b c : Bool) → T b → T (b || c)
     go true c t = tt
     go false c t = absurd t
+
+-- ---- the order is total on numbers
+
+unsigned : (a b : ℕ) → a ≤ b → T (ltb a b || (eqb a b && true))
+unsigned a b h = elim (eq-or-lt-of-le h) [ inl e ↦ rw (eq-eqb a b e, or-true) tt | inr l ↦ rw (lt-ltb a b l) tt ]
+
+opposite : (a b : ℕ) → T (ltb 0 (a + b) || (eqb a b && (false || eqb a 0)))
+opposite a b = elim (eq-zero-or-pos (a + b)) [
+  | inl z ↦
+      let p : a ≡ 0 = omega arith in
+      let q : b ≡ 0 = omega arith in
+      rw (p, q) tt
+  | inr l ↦ rw (lt-ltb 0 (a + b) l) tt
+]
+
+pub le-of-not-lt : (x y : Float) → isNan x ≡ false → isNan y ≡ false → lt y x ≡ false → T (le x y)
+unfolding le lt eq isNan
+le-of-not-lt nan y p q h = absurd (true≢false p)
+le-of-not-lt (inf s) nan p q h = absurd (true≢false q)
+le-of-not-lt (fin s m e) nan p q h = absurd (true≢false q)
+le-of-not-lt (inf true) (inf true) p q h = tt
+le-of-not-lt (inf true) (inf false) p q h = tt
+le-of-not-lt (inf false) (inf true) p q h = absurd (true≢false h)
+le-of-not-lt (inf false) (inf false) p q h = tt
+le-of-not-lt (inf true) (fin t n d) p q h = tt
+le-of-not-lt (inf false) (fin t n d) p q h = absurd (true≢false h)
+le-of-not-lt (fin s m e) (inf true) p q h = absurd (true≢false h)
+le-of-not-lt (fin s m e) (inf false) p q h = tt
+le-of-not-lt (fin false m e) (fin false n d) p q h = unsigned (m * up e * down d) (n * up d * down e) (ltb-false _ _ h)
+le-of-not-lt (fin false m e) (fin true n d) p q h =
+    let z : n * up d * down e + m * up e * down d ≤ 0 = ltb-false _ _ h in
+    let a : m * up e * down d ≡ 0 = omega arith in
+    let b : n * up d * down e ≡ 0 = omega arith in
+    rw (a, b) tt
+le-of-not-lt (fin true m e) (fin false n d) p q h = opposite (m * up e * down d) (n * up d * down e)
+le-of-not-lt (fin true m e) (fin true n d) p q h =
+    let l : n * up d * down e ≤ m * up e * down d = ltb-false _ _ h in
+    elim (eq-or-lt-of-le l) [
+      | inl z ↦ rw (eq-eqb (m * up e * down d) (n * up d * down e) (sym z), or-true) tt
+      | inr k ↦ rw (lt-ltb _ _ k) tt
+    ]

@@ -1,0 +1,44 @@
+-- `params::judge_for_map` meets its contract: the stages in their order, each from what its judge ensures. Assumes nothing.
+use mathlib.Core.Path.{ap, _∙_}
+use borrow.Author.Needs.{needs}
+use Rattle.params.specs.Refusals.{mapRefusalOf, roomRefusal}
+use Rattle.params.specs.Accepted.{stage-refuses, stage-passes, stage-zero, sizes-pass}
+use Rattle.params.proofs.judge_for_map.Statement.{statement}
+use Rattle.params.proofs.judge_for_map.Tie as tie
+
+returns : tie.Need-returns
+unfolding mapRefusalOf
+returns c =
+    stage-refuses _ _ (c .before .before .judge-size .ensures) (c .before .number .ensures) (c .if1 .taken)
+
+returns-2 : tie.Need-returns-2
+unfolding mapRefusalOf
+returns-2 c =
+    stage-passes _ _ (c .before .before .before .before .before .judge-size .ensures) (c .before .before .before .before .number .ensures) (c .before .before .before .if1 .left)
+    (stage-refuses _ _ (c .before .before .judge-map .ensures) (c .before .number2 .ensures) (c .if2 .taken))
+
+returns-3 : tie.Need-returns-3
+unfolding mapRefusalOf
+returns-3 c =
+    stage-passes _ _ (c .before .before .before .before .before .before .before .judge-size .ensures) (c .before .before .before .before .before .before .number .ensures) (c .before .before .before .before .before .if1 .left)
+    (stage-passes _ _ (c .before .before .before .before .judge-map .ensures) (c .before .before .before .number2 .ensures) (c .before .before .if2 .left)
+    (c .judge-room .ensures ∙ ap (λ n. roomRefusal n (c .before .before .before .before .before .before .before .before .args .room)) (c .before .pixels .ensures)))
+
+pixels-requires : tie.Need-pixels-requires
+pixels-requires c κs =
+    let s = sizes-pass _ _ _ _ (stage-zero _ (c .before .before .before .before .before .judge-size .ensures) (c .before .before .before .before .number .ensures) (c .before .before .before .if1 .left)) in
+    (s .wide, s .high)
+
+pub judge-for-map-spec : {M : Type 1} → statement M
+judge-for-map-spec =
+    tie.close
+    (tie.spec
+    (λ c κs. search needs)
+    (λ c κs. search needs)
+    returns
+    (λ c κs. search needs)
+    (λ c κs. search needs)
+    returns-2
+    pixels-requires
+    (λ c κs. search needs)
+    returns-3)

@@ -1,0 +1,20 @@
+-- `params::judge_map` meets its contract: every answer is walked to along the chain. Assumes nothing.
+use Rattle.params.specs.Refusals.{mapRefusal}
+use Rattle.params.proofs.Chain.{chain}
+use Rattle.params.proofs.judge_map.Statement.{statement}
+use Rattle.params.proofs.judge_map.Tie as tie
+
+returns : tie.Need-returns
+unfolding mapRefusal
+returns c = search chain depth 40
+
+returns-2 : tie.Need-returns-2
+unfolding mapRefusal
+returns-2 c = search chain depth 40
+
+returns-3 : tie.Need-returns-3
+unfolding mapRefusal
+returns-3 c = search chain depth 40
+
+pub judge-map-spec : {M : Type 1} → statement M
+judge-map-spec = tie.close (tie.spec returns returns-2 returns-3)
