@@ -1,0 +1,3 @@
+-- The definitions of the crate: what its contracts cite.
+pub mod Saddle
+pub mod Around

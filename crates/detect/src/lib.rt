@@ -1,0 +1,2 @@
+// The list: which pixels of the map are corners, and where between the pixels each one lies.
+mod saddle;
