@@ -3,3 +3,5 @@ pub mod Exact
 pub mod Walk
 pub mod Sign
 pub mod Reach
+pub mod Disks
+pub mod Rooted
