@@ -7,3 +7,5 @@ pub mod Series
 pub mod Range
 pub mod Rounding
 pub mod Close
+pub mod Facts
+pub mod Examples

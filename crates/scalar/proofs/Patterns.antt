@@ -9,7 +9,7 @@ use native.Mathlib.Omega.{arith}
 use lib.IntN.{ℤ}
 use lib.Dec.{T, leb, ltb, eqb, leb→le, nleb→lt, ltb→lt, eqb→eq, not-T}
 use lib.Pow.{pow-pos, pow-mono}
-use lib.Ieee.{Float, nan, inf, fin, up, down, binary32, fits, odd, ofFields, ofBits, toBits, nanBits}
+use lib.Ieee.{Float, nan, inf, fin, up, down, binary32, fits, odd, ofFields, ofBits, toBits, nanBits, isNan, ne}
 use lib.Ieee.Bits.{is-false, cond-no, ofBits-toBits, nanBits-above}
 use lib.Ieee.Exact.{HasValue, odd-sign}
 use Rattle.scalar.specs.Bits.{fromZero, infinite, ofField, val, middle}
@@ -192,10 +192,14 @@ pub worth : (m : ℕ) (e : ℤ) → T (fits binary32 (fin false m e)) → m * up
 worth m e f =
     subst (λ (x : Float). HasValue x false (val (toBits binary32 (fin false m e))) (2 ^ 149)) (ofBits-toBits binary32 (fin false m e) f) (val-is (toBits binary32 (fin false m e)) (finite-below m e f)) .1
 
--- no pattern below infinity's is a NaN's
-pub no-nan-pattern : (c : ℕ) → c < infinite → T (not (nanBits binary32 c))
+-- ---- no NaN: a pattern that is at most infinity's beside the sign, and a value that does not differ from itself
+
+pub no-nan-pattern : (c : ℕ) → c % 2147483648 ≤ infinite → T (not (nanBits binary32 c))
 no-nan-pattern c h =
-    subst (λ (b : Bool). T (not b)) (sym (nanBits-above binary32 c)) (not-T (ltb 2139095040 (c % 2147483648)) (λ (t : T (ltb 2139095040 (c % 2147483648))). no c h (ltb→lt 2139095040 (c % 2147483648) t)))
-  where
-    no : (c : ℕ) → c < 2139095040 → 2139095040 < c % 2147483648 → ⊥
-    no c h t = omega arith
+    subst (λ (b : Bool). T (not b)) (sym (nanBits-above binary32 c)) (not-T (ltb 2139095040 (c % 2147483648)) (λ (t : T (ltb 2139095040 (c % 2147483648))). not-le-of-lt (ltb→lt 2139095040 (c % 2147483648) t) h))
+
+pub no-nan-value : (x : Float) → ne x x ≡ false → T (not (isNan x))
+unfolding ne isNan
+no-nan-value nan e = subst (λ (b : Bool). T (not b)) (sym e) tt
+no-nan-value (inf s) e = tt
+no-nan-value (fin s m k) e = tt

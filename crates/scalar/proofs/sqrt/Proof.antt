@@ -1,24 +1,18 @@
 -- `scalar::sqrt` meets its contract. Assumes nothing.
 use mathlib.Core.Path.{_≡_, refl, sym, ap, subst}
-use mathlib.Core.Bool.{Bool, true, false, not}
+use mathlib.Core.Bool.{true, false}
 use Prim.Native.Nat.{ℕ}
+use native.Mathlib.Omega.{arith}
 use borrow.Author.Needs.{needs}
 use lib.Dec.{T}
-use lib.Ieee.{Float, nan, inf, fin, binary32, fits, isNan, ne, toBits, ofBits}
+use lib.Ieee.{Float, nan, inf, fin, binary32, fits, ne, toBits, ofBits}
 use lib.Ieee.Compare.{differs-from-itself}
 use Rattle.scalar.specs.Bits.{fromZero}
 use Rattle.scalar.specs.Root.{rootOf, rootBits}
 use Rattle.scalar.specs.declared.Root.the-variants.{Value, Outside}
-use Rattle.scalar.proofs.Patterns.{from-zero, not-from-zero, no-nan-pattern}
+use Rattle.scalar.proofs.Patterns.{from-zero, not-from-zero, no-nan-pattern, no-nan-value}
 use Rattle.scalar.proofs.sqrt.Statement.{statement}
 use Rattle.scalar.proofs.sqrt.Tie as tie
-
--- a NaN differs from itself, so what does not is none
-no-nan : (x : Float) → ne x x ≡ false → isNan x ≡ false
-unfolding ne isNan
-no-nan nan e = e
-no-nan (inf s) e = refl
-no-nan (fin s m e) h = refl
 
 outside-nan : (x : Float) → ne x x ≡ true → Outside ≡ rootOf x
 unfolding rootOf
@@ -47,9 +41,9 @@ sqrt-spec =
     tie.close
     (tie.spec
     (λ c. outside-nan (c .before .args .x) (c .if1 .taken))
-    (λ c. subst (λ (b : Bool). T (not b)) (sym (no-nan (c .before .args .x) (c .if1 .left))) tt)
+    (λ c. no-nan-value (c .before .args .x) (c .if1 .left))
     (λ c κs. search needs)
-    (λ c. no-nan-pattern (c .root-bits .result) (c .root-bits .ensures .1))
+    (λ c. no-nan-pattern (c .root-bits .result) (omega arith))
     (λ c.
     let a = c .before .before .before in
     inside (a .args .x) (c .root-bits .result) (from-zero (a .args .x) (held a) (c .before .if2 .taken)) (c .root-bits .ensures .0))
