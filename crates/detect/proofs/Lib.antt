@@ -5,3 +5,5 @@ pub mod Sign
 pub mod Reach
 pub mod Disks
 pub mod Rooted
+pub mod Offsets
+pub mod AsRust
