@@ -1,4 +1,4 @@
--- The list: document 01's rules, and the steps by which the code is shown to follow them.
+-- The list: document 01's rules in the document's order, then what the private functions hand each other.
 pub mod Saddle
 pub mod PeakFit
 pub mod Window

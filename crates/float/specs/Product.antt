@@ -29,7 +29,7 @@ nonneg (inf s) f h = absurd f
 nonneg (fin false m e) f h = tt
 nonneg (fin true m e) f h = no-factor m (up e) (up-pos e) (no-factor (m * up e) 1 (lit< tt) (sym (both-eq (0 * down e) (m * up e * 1) h .0) ∙ zero-mul (down e)))
 
-round-zero : (s : Bool) (c : ℕ) → 0 < c → round binary32 s 0 c ≡ fin s 0 (pos 0)
+pub round-zero : (s : Bool) (c : ℕ) → 0 < c → round binary32 s 0 c ≡ fin s 0 (pos 0)
 unfolding round
 round-zero s c h = round-same binary32 s 0 c 0 1 h (lit< tt) (zero-mul 1 ∙ sym (zero-mul c)) ∙ refl
 

@@ -127,6 +127,16 @@ pub enum Answer {
     Threshold,
     // 9: a lent buffer other than the list is too short
     BufferTooShort,
+    // 10: a frame file longer than the program has room for
+    FileTooLong,
+    // 11: a frame file shorter than its fields
+    FileTooShort,
+    // 12: a version that is not known
+    Version,
+    // 13: the stated length is not the file's
+    StatedLength,
+    // 14: a mode above 1
+    Mode,
 }
 
 impl Answer {
@@ -145,6 +155,11 @@ impl Answer {
             Answer::SuppressionRadius => 7,
             Answer::Threshold => 8,
             Answer::BufferTooShort => 9,
+            Answer::FileTooLong => 10,
+            Answer::FileTooShort => 11,
+            Answer::Version => 12,
+            Answer::StatedLength => 13,
+            Answer::Mode => 14,
         }
     }
 }

@@ -1,0 +1,25 @@
+//! The judge: the published Rust, compiled unchanged, with frame files in and bits out.
+
+// The published files, and the crate root they expect around them.
+include!(concat!(env!("OUT_DIR"), "/original.rs"));
+#[allow(dead_code)]
+mod shells;
+use shells::{par, refine, uncertainty, ResponseMap};
+
+pub mod answers;
+pub mod frame;
+pub mod lists;
+pub mod maker;
+pub mod original;
+pub mod outcome;
+pub mod pictures;
+pub mod printed;
+pub mod random;
+pub mod upsampled;
+
+pub use answers::{accepted, refusal, Room};
+pub use frame::{document_frame, split, Frame};
+pub use maker::{damaged, made, make, Made, Sizes};
+pub use outcome::{run, Detector, Found, Outcome};
+pub use pictures::{Kind, KINDS};
+pub use printed::{list, printed, printed_by};
