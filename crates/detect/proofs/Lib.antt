@@ -7,3 +7,6 @@ pub mod Disks
 pub mod Rooted
 pub mod Offsets
 pub mod AsRust
+pub mod Kept
+pub mod HigherSettings
+pub mod ShorterList

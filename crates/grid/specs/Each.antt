@@ -160,3 +160,8 @@ module _ {A B : Type 0} (g : A → B) where
   unfolding any each
   any-made p [] = refl
   any-made p (a ∷ l) = ap (λ (b : Bool). p (g a) || b) (any-made p l)
+
+pub any-each : {A B : Type 0} (p : B → Bool) (f : A → List B) (l : List A) → any p (each f l) ≡ any (λ a. any p (f a)) l
+unfolding any each
+any-each p f [] = refl
+any-each p f (a ∷ l) = any-append p (f a) (each f l) ∙ ap (λ (b : Bool). any p (f a) || b) (any-each p f l)

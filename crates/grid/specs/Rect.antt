@@ -8,7 +8,7 @@ use native.Mathlib.Omega.{arith}
 use mathlib.Core.List.{List, [], _∷_, _++_, append-assoc, append-nil}
 use mathlib.Core.Bool.{Bool, true, false, _||_}
 use lib.ListN.{length, length-append}
-use Rattle.grid.specs.Each.{each, each-append, each-each, each-one, each-none, each-more, length-each, once, keep, count, any, any-yes, any-made, count-made}
+use Rattle.grid.specs.Each.{each, each-append, each-each, each-one, each-none, each-more, length-each, once, keep, count, any, any-yes, any-made, any-each, count-made}
 
 pub record Place : Type 0 where
   pub x : ℕ
@@ -157,6 +157,12 @@ count-line p ax ex y = rw line-made (count-made (λ k. place (ax + k) y) p (rang
 
 pub any-line-none : (p : Place → Bool) (ax ex y : ℕ) → ((k : ℕ) → k < ex - ax → p (place (ax + k) y) ≡ false) → any p (line ax ex y) ≡ false
 any-line-none p ax ex y h = rw line-made (any-made (λ k. place (ax + k) y) p (range 0 (ex - ax)) ∙ any-range-none _ 0 (ex - ax) (λ k b c. h k c))
+
+-- none of the places inside
+pub any-rect-none : (p : Place → Bool) (ax ex ay ey : ℕ) → ((x y : ℕ) → ax ≤ x → x < ex → ay ≤ y → y < ey → p (place x y) ≡ false) → any p (rect ax ex ay ey) ≡ false
+unfolding rect
+any-rect-none p ax ex ay ey h =
+    any-each p (λ y. line ax ex y) (range ay ey) ∙ any-range-none _ ay ey (λ y b c. any-line-none p ax ex y (λ k l. h (ax + k) y (omega arith) (omega arith) b c))
 
 -- only what a test says of the places inside counts
 module _ (p q : Place → Bool) where
