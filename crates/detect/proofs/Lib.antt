@@ -10,3 +10,4 @@ pub mod AsRust
 pub mod Kept
 pub mod HigherSettings
 pub mod ShorterList
+pub mod Inside

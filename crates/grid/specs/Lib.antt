@@ -10,3 +10,4 @@ pub mod Ways
 pub mod Each
 pub mod Rect
 pub mod Over
+pub mod All
