@@ -1,18 +1,18 @@
--- The map: working image, response and blur as document 01 gives them, and what the entry promises; then the facts about them.
+-- The map, as document 01 gives it, and what the entry promises: Upsample, Response, Blur and Map are to be believed. Then facts and steps.
 pub mod Upsample
 pub mod Response
 pub mod Blur
 pub mod Map
-pub mod Runs
 pub mod Quarter
+pub mod Inner
+pub mod Exact
+pub mod BlurLaws
+pub mod BlurRange
+pub mod MapFacts
+pub mod Worked
+pub mod BlurWorked
+pub mod Runs
 pub mod Columns
 pub mod Tables
 pub mod Starts
-pub mod Inner
-pub mod Exact
-pub mod Worked
-pub mod BlurLaws
-pub mod BlurRange
 pub mod BlurSteps
-pub mod BlurWorked
-pub mod MapFacts

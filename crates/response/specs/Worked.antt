@@ -1,4 +1,4 @@
--- Document 01's numbers, computed from the definitions: P1 to P6 and P10.
+-- Document 01's numbers, computed from the definitions: P1 to P6 and P10. Assumes nothing.
 use mathlib.Core.Path.{_≡_, refl, sym}
 use mathlib.Core.Bool.{Bool, true, false, cond}
 use mathlib.Core.List.{List, [], _∷_}

@@ -1,18 +1,13 @@
 // The four tables: running sums of an image along its rows, its columns, and its falling and rising diagonals.
+use crate::upsample::lesser;
 ghost use mathlib.Core.Path.{_≡_};
-ghost use Prim.Native.Nat.{ℕ, _+_, _-_, _*_, _<_, _≤_, min};
+ghost use Prim.Native.Nat.{ℕ, _+_, _-_, _*_, _<_, _≤_};
 ghost use lib.ListN.{length, getD};
 ghost use Rattle.grid.specs.Fill.{filled};
 ghost use Rattle.grid.specs.Plane.{plane};
 ghost use Rattle.grid.specs.Span.{span};
 ghost use Rattle.grid.specs.Ways.{pixel, along, down, fall, rise, runSum};
 ghost use Rattle.response.specs.Columns.{Strip};
-
-fn lesser(a: usize, b: usize) -> usize
-    ensures { λ m. ⌜ m ≡ min a b ⌝ }
-{
-    if a < b { a } else { b }
-}
 
 // Along each row, from the left.
 pub fn sat_row(img: &[u8], w: usize, h: usize, out: &mut [u32])

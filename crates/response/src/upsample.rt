@@ -8,7 +8,7 @@ ghost use Rattle.grid.specs.Ways.{pixel};
 ghost use Rattle.response.specs.Upsample.{upAt, workAt};
 ghost use Rattle.response.specs.Quarter.{quarter, between};
 
-fn lesser(a: usize, b: usize) -> usize
+pub fn lesser(a: usize, b: usize) -> usize
     ensures { λ m. ⌜ m ≡ min a b ⌝ }
 {
     if a < b { a } else { b }
