@@ -133,7 +133,7 @@ fn mean_row(src: &[f32], w: usize, y: usize, radius: usize, dst: &mut [f32])
     divide_row(dst, radius);
 }
 
-// The means down the columns of src about row y, w entries a row.
+// The means down the columns of src about row y, w entries a row. Three rows at a time, as far as that goes: dst is read and stored less often.
 fn mean_column(src: &[f32], w: usize, h: usize, y: usize, radius: usize, dst: &mut [f32])
     requires { ⌜ (radius ≤ 3) × (y < h) × (h ≤ 8192) × (length (now dst) ≡ w) × (w * h ≤ length (now src)) ⌝ }
     ensures { λ _. ⌜ now (dst .exit) ≡ filled w (λ x. columnMean (valueAt (now (src .entry)) w) h radius x y) (now (dst .entry)) ⌝ }
