@@ -123,12 +123,21 @@ module _ {ℓ} {A : Type ℓ} (d : A) (n : ℕ) (S : ℕ → ℕ → A) where
     long = refl;
   }
 
-  pub stage-more : (a e : ℕ) (g : ℕ → A → A) (k : ℕ) {xs ys zs : List A} → Stage n S xs ys k → zs ≡ touched d a e g ys
-      → ((j : ℕ) → j < n → a ≤ j → j < e → g j (S k j) ≡ S (k + 1) j) → ((j : ℕ) → j < n → j < a → S k j ≡ S (k + 1) j) → ((j : ℕ) → j < n → e ≤ j → S k j ≡ S (k + 1) j)
-      → Stage n S xs zs (k + 1)
-  stage-more a e g k {xs} {ys} {zs} r q u v w =
-      let f : zs ≡ filled n (S (k + 1)) xs = touched-on d a e g ys n (S k) (S (k + 1)) xs (r .fill) q (r .size) u v w in
+  -- some turns more, in one pass
+  pub stage-more : (a e : ℕ) (g : ℕ → A → A) (k l : ℕ) {xs ys zs : List A} → Stage n S xs ys k → zs ≡ touched d a e g ys
+      → ((j : ℕ) → j < n → a ≤ j → j < e → g j (S k j) ≡ S l j) → ((j : ℕ) → j < n → j < a → S k j ≡ S l j) → ((j : ℕ) → j < n → e ≤ j → S k j ≡ S l j)
+      → Stage n S xs zs l
+  stage-more a e g k l {xs} {ys} {zs} r q u v w =
+      let f : zs ≡ filled n (S l) xs = touched-on d a e g ys n (S k) (S l) xs (r .fill) q (r .size) u v w in
       record { size = r .size; fill = f; long = length-fill _ _ xs f }
+
+  -- a second loop that goes on where the first stopped: `stage-on` is its start, `stage-join` puts both together
+  pub stage-on : {xs ys : List A} {k : ℕ} → Stage n S xs ys k → Stage n S ys ys k
+  stage-on {xs} {ys} {k} r = record { size = r .long ∙ r .size; fill = fill-again n (S k) xs (r .fill); long = refl }
+
+  pub stage-join : {xs ys zs : List A} {k l : ℕ} → Stage n S xs ys k → Stage n S ys zs l → Stage n S xs zs l
+  stage-join {xs} {ys} {zs} {k} {l} r q =
+      record { size = r .size; fill = q .fill ∙ ap (filled n (S l)) (r .fill) ∙ filled-filled n n (S k) (S l) xs (omega arith); long = q .long ∙ r .long }
 
   -- from the buffer as it was before its entries were set
   pub stage-all : (f : ℕ → A) (k : ℕ) (xs : List A) {ys zs : List A} → length xs ≡ n → ys ≡ touched d 0 (length xs) (λ j _. f j) xs → Stage n S ys zs k → zs ≡ filled n (S k) xs

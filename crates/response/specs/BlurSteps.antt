@@ -2,7 +2,7 @@
 -- Assumes nothing.
 use mathlib.Core.Path.{_≡_, refl, ap, _∙_}
 use Prim.Native.Nat.{ℕ, zero, suc, _+_, _-_, _*_, _≤_, _<_, min, max}
-use native.Mathlib.Nat.{add-assoc}
+use native.Mathlib.Nat.{add-assoc, add-mul}
 use native.Mathlib.Decide.{decLe}
 use native.Mathlib.Omega.{arith}
 use mathlib.Core.List.{List}
@@ -91,7 +91,7 @@ module _ (src : List Float) (row w r : ℕ) where
   pub row-more : (k a b : ℕ) {a′ b′ : ℕ} {xs ys zs : List Float} → a′ ≡ r - k → a ≡ min a′ w → b′ ≡ k - r → b ≡ min b′ w → Stage w (grown (λ i. getD src (row + i) nan) w r) xs ys k
       → zs ≡ touched nan a (w - b) (λ x v. add binary32 v (getD src (row + b + (x - a)) nan)) ys → Stage w (grown (λ i. getD src (row + i) nan) w r) xs zs (k + 1)
   row-more k a b u p′ v q′ s t =
-      stage-more nan w _ a (w - b) _ k s t inside (λ j l m. grown-before _ w r k j (before-row w r k j a b p q l m)) (λ j l m. grown-past _ w r k j (past-row w r k j a b p q l m))
+      stage-more nan w _ a (w - b) _ k (k + 1) s t inside (λ j l m. grown-before _ w r k j (before-row w r k j a b p q l m)) (λ j l m. grown-past _ w r k j (past-row w r k j a b p q l m))
     where
       p : a ≡ min (r - k) w
       p = rw (← u) p′
@@ -140,6 +140,10 @@ row-means src w r y xs {ys} {zs} l p q =
     let n : length ys ≡ w = length-fill _ _ xs p ∙ l in
     touched-on nan 0 w (λ x v. div binary32 v (countOf w r x)) ys w _ _ xs (rw l at p) (rw n at q) l (λ j _ _ _. refl) (λ j _ b. absurd (omega arith)) (λ j b c. absurd (omega arith))
 
+-- v and the entries of three rows in src, w wide, the first of which starts at b
+unfoldable pub addThree : Float → List Float → ℕ → ℕ → ℕ → Float
+addThree v src w b x = add binary32 (add binary32 (add binary32 v (getD src (b + x) nan)) (getD src (b + w + x) nan)) (getD src (b + w + w + x) nan)
+
 -- ---- a row of columns' sums: the rows from a and below k are added
 abbrev pub rowsFrom : List Float → ℕ → ℕ → ℕ → ℕ → Float
 rowsFrom src w a k x = fsum (λ i. valueAt src w x (a + i)) (k - a)
@@ -150,13 +154,31 @@ module _ (src : List Float) (w a : ℕ) where
 
   pub column-more : (k : ℕ) {xs ys zs : List Float} → a ≤ k → Stage w (rowsFrom src w a) xs ys k
       → zs ≡ touched nan 0 w (λ x v. add binary32 v (getD src (k * w + (x - 0)) nan)) ys → Stage w (rowsFrom src w a) xs zs (k + 1)
-  column-more k l s t = stage-more nan w _ 0 w _ k s t inside (λ j _ b. absurd (omega arith)) (λ j b c. absurd (omega arith))
+  column-more k l s t = stage-more nan w _ 0 w _ k (k + 1) s t inside (λ j _ b. absurd (omega arith)) (λ j b c. absurd (omega arith))
     where
       inside : (j : ℕ) → j < w → 0 ≤ j → j < w → add binary32 (rowsFrom src w a k j) (getD src (k * w + (j - 0)) nan) ≡ rowsFrom src w a (k + 1) j
       inside j _ _ _ =
           let e : k ≡ a + (k - a) = omega arith in
           let z : j - 0 ≡ j = omega arith in
           rw z (fold-on (add binary32) f0 _ (k - a) _ (omega arith) (ap (λ (i : ℕ). valueAt src w j i) e) refl)
+
+  -- three rows in one pass
+  pub column-three : (k : ℕ) {xs ys zs : List Float} → a ≤ k → Stage w (rowsFrom src w a) xs ys k → zs ≡ touched nan 0 (length ys) (λ x v. addThree v src (length ys) (k * w) x) ys
+      → Stage w (rowsFrom src w a) xs zs (k + 3)
+  unfolding addThree
+  column-three k {ys = ys} l s t = stage-more nan w _ 0 w _ k (k + 3) s (rw (s .long ∙ s .size) at t) inside (λ j _ b. absurd (omega arith)) (λ j b c. absurd (omega arith))
+    where
+      row-at : (m n : ℕ) → n ≡ k + m → k * w + m * w ≡ n * w
+      row-at m n e = rw (e, add-mul)
+
+      inside : (j : ℕ) → j < w → 0 ≤ j → j < w → addThree (rowsFrom src w a k j) src w (k * w) j ≡ rowsFrom src w a (k + 3) j
+      inside j _ _ _ =
+          let f : ℕ → Float = λ i. valueAt src w j (a + i) in
+          let u : k * w + j ≡ (a + (k - a)) * w + j = omega (arith, row-at 0 (a + (k - a)) (omega arith)) in
+          let v : k * w + w + j ≡ (a + (k - a + 1)) * w + j = omega (arith, row-at 1 (a + (k - a + 1)) (omega arith)) in
+          let x : k * w + w + w + j ≡ (a + (k - a + 1 + 1)) * w + j = omega (arith, row-at 2 (a + (k - a + 1 + 1)) (omega arith)) in
+          fold-on (add binary32) f0 f (k - a + 1 + 1) (k + 3 - a) (omega arith) (ap (λ (i : ℕ). getD src i nan) x)
+          (fold-on (add binary32) f0 f (k - a + 1) (k - a + 1 + 1) refl (ap (λ (i : ℕ). getD src i nan) v) (fold-on (add binary32) f0 f (k - a) (k - a + 1) refl (ap (λ (i : ℕ). getD src i nan) u) refl))
 
   pub column-all : (h r y k e : ℕ) (xs : List Float) {ys zs us : List Float} → length xs ≡ w → a ≡ y - r → e ≡ min (y + r + 1) h → k ≡ e → ys ≡ touched nan 0 (length xs) (λ _ _. f0) xs
       → Stage w (rowsFrom src w a) ys zs k → us ≡ touched nan 0 (length zs) (λ _ v. mul binary32 v (div binary32 f1 (ofInt binary32 (pos (e - a))))) zs

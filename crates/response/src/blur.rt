@@ -10,6 +10,7 @@ ghost use Rattle.float.specs.Values.{f0};
 ghost use Rattle.grid.specs.Fill.{filled};
 ghost use Rattle.grid.specs.Plane.{plane};
 ghost use Rattle.grid.specs.Touch.{touched};
+ghost use Rattle.response.specs.BlurSteps.{addThree};
 ghost use Rattle.response.specs.Blur.{valueAt, countOf, windowSum, rowMean, columnMean, blurAt, scratched};
 
 fn less(x: usize, r: usize) -> usize
@@ -46,6 +47,19 @@ fn add(dst: &mut [f32], a: usize, e: usize, src: &[f32], b: usize)
 {
     for x in a..e {
         dst[x] = dst[x] + src[b + (x - a)];
+    }
+}
+
+// Three rows of src, from b on, are added one after the other.
+fn add_three(dst: &mut [f32], src: &[f32], b: usize)
+    requires { ⌜ b + 3 * length (now dst) ≤ length (now src) ⌝ }
+    ensures { λ _. ⌜ now (dst .exit) ≡ touched nan 0 (length (now (dst .entry))) (λ x v. addThree v (now (src .entry)) (length (now (dst .entry))) b x) (now (dst .entry)) ⌝ }
+{
+    let w = dst.len();
+    let c = b + w;
+    let d = c + w;
+    for x in 0..w {
+        dst[x] = ((dst[x] + src[b + x]) + src[c + x]) + src[d + x];
     }
 }
 
@@ -119,7 +133,7 @@ fn mean_row(src: &[f32], w: usize, y: usize, radius: usize, dst: &mut [f32])
     divide_row(dst, radius);
 }
 
-// The means down the columns of src about row y, w entries a row.
+// The means down the columns of src about row y, w entries a row. Three rows at a time, as far as that goes: dst is read and stored less often.
 fn mean_column(src: &[f32], w: usize, h: usize, y: usize, radius: usize, dst: &mut [f32])
     requires { ⌜ (radius ≤ 3) × (y < h) × (h ≤ 8192) × (length (now dst) ≡ w) × (w * h ≤ length (now src)) ⌝ }
     ensures { λ _. ⌜ now (dst .exit) ≡ filled w (λ x. columnMean (valueAt (now (src .entry)) w) h radius x y) (now (dst .entry)) ⌝ }
@@ -128,8 +142,14 @@ fn mean_column(src: &[f32], w: usize, h: usize, y: usize, radius: usize, dst: &m
     let e = smaller(y + radius + 1, h);
     let n = (e - a) as f32;
     clear(dst);
-    for k in a..e {
+    let mut k = a;
+    while k + 3 <= e {
+        add_three(dst, src, k * w);
+        k += 3;
+    }
+    while k < e {
         add(dst, 0, w, src, k * w);
+        k += 1;
     }
     scale(dst, 1.0 / n);
 }
