@@ -4,7 +4,7 @@ ghost use Prim.Native.Nat.{_≤_, _<_};
 ghost use lib.ListN.{length};
 ghost use Rattle.grid.specs.Ways.{pixel};
 ghost use Rattle.detect.specs.Saddle.{side, apart, offset, momentsOf, normsOf, saddleOf, sumsOf, verdict, judge, saddleAt};
-ghost use Rattle.detect.specs.Around.{Reaches, Around, signless};
+ghost use Rattle.detect.specs.Around.{Reaches, Packs, Around, signless};
 use scalar::Root;
 
 // What a radius fixes: the mean of the squared distance over the disk, and 1 over the norms of r² - mean, of x² - y² and of xy.
@@ -40,17 +40,8 @@ const MIN_SADDLE_RATIO: f32 = 0.2;
 // Smallest difference of the two curvatures, times the squared radius: one gray level.
 const MIN_SADDLE_SPREAD: f32 = 1.0;
 
-// How far a row reaches to either side of the middle column: row k, entry d for the rows d away from the middle one, in the disk of radius k.
-const REACH: [[usize; 8]; 8] = [
-    [0, 0, 0, 0, 0, 0, 0, 0],
-    [1, 1, 0, 0, 0, 0, 0, 0],
-    [2, 1, 0, 0, 0, 0, 0, 0],
-    [3, 2, 2, 0, 0, 0, 0, 0],
-    [4, 3, 3, 2, 0, 0, 0, 0],
-    [5, 4, 4, 4, 3, 0, 0, 0],
-    [6, 5, 5, 5, 4, 3, 0, 0],
-    [7, 6, 6, 6, 5, 4, 3, 0],
-];
+// How far the rows of a disk reach to either side of its middle column: entry k for radius k, and in its hexadecimal digit d the rows d away from the middle one.
+const REACHES: [usize; 8] = [0, 0x11, 0x12, 0x223, 0x2334, 0x34445, 0x345556, 0x3456667];
 
 fn distance(i: usize, k: usize) -> usize
     ensures { λ r. ⌜ r ≡ apart i k ⌝ }
@@ -61,11 +52,18 @@ fn distance(i: usize, k: usize) -> usize
     i - k
 }
 
-fn reach(k: usize, iy: usize) -> usize
-    requires { ⌜ (k ≤ 7) × (iy < side k) ⌝ }
+fn reaches_of(k: usize) -> usize
+    requires { ⌜ k ≤ 7 ⌝ }
+    ensures { λ r. ⌜ Packs k r ⌝ }
+{
+    REACHES[k]
+}
+
+fn reach(reaches: usize, k: usize, iy: usize) -> usize
+    requires { ⌜ (k ≤ 7) × (iy < side k) × Packs k reaches ⌝ }
     ensures { λ r. ⌜ Reaches k iy r ⌝ }
 {
-    REACH[k][distance(iy, k)]
+    (reaches >> (4 * distance(iy, k))) % 16
 }
 
 fn offset_of(k: usize, i: usize) -> f32
@@ -80,9 +78,10 @@ fn disk_moments(k: usize) -> Moments
     ensures { λ r. ⌜ r ≡ momentsOf k ⌝ }
 {
     let rows = 2 * k + 1;
+    let reaches = reaches_of(k);
     let mut s = Moments { n: 0.0, r2: 0.0 };
     for iy in 0..rows {
-        let far = reach(k, iy);
+        let far = reach(reaches, k, iy);
         let dy = offset_of(k, iy);
         let first = k - far;
         let end = k + far + 1;
@@ -102,13 +101,14 @@ fn disk_norms(mean: f32, k: usize) -> Sums
     ensures { λ r. ⌜ r ≡ normsOf mean k ⌝ }
 {
     let rows = 2 * k + 1;
+    let reaches = reaches_of(k);
     let mut s = Sums {
         u: 0.0,
         v: 0.0,
         xy: 0.0,
     };
     for iy in 0..rows {
-        let far = reach(k, iy);
+        let far = reach(reaches, k, iy);
         let dy = offset_of(k, iy);
         let first = k - far;
         let end = k + far + 1;
@@ -147,13 +147,14 @@ fn project(t: SaddleTest, k: usize, image: &[u8], w: usize, h: usize, x: usize, 
     ensures { λ r. ⌜ r ≡ sumsOf t k (pixel (now (image .entry)) w) x y ⌝ }
 {
     let rows = 2 * k + 1;
+    let reaches = reaches_of(k);
     let mut s = Sums {
         u: 0.0,
         v: 0.0,
         xy: 0.0,
     };
     for iy in 0..rows {
-        let far = reach(k, iy);
+        let far = reach(reaches, k, iy);
         let dy = offset_of(k, iy);
         let row = (y - k + iy) * w + (x - k);
         let first = k - far;

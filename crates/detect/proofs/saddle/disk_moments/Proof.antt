@@ -8,16 +8,16 @@ use Rattle.detect.proofs.saddle.disk_moments.Statement.{statement}
 use Rattle.detect.proofs.saddle.disk_moments.Tie as tie
 
 abbrev Inv-loop2 : tie.InvT-loop2
-Inv-loop2 k rows s₀ iy far dy first end ix₀ s ix = Within k (λ p. momentAdded) noMoments iy far ix s
+Inv-loop2 k rows reaches s₀ iy far dy first end ix₀ s ix = Within k (λ p. momentAdded) noMoments iy far ix s
 
 abbrev μ-loop2 : tie.MeasureT-loop2
-μ-loop2 k rows s₀ iy far dy first end ix₀ s ix = end - ix
+μ-loop2 k rows reaches s₀ iy far dy first end ix₀ s ix = end - ix
 
 abbrev Inv-loop : tie.InvT-loop
-Inv-loop k rows s₀ iy₀ s iy = Above k (λ p. momentAdded) noMoments iy s
+Inv-loop k rows reaches s₀ iy₀ s iy = Above k (λ p. momentAdded) noMoments iy s
 
 abbrev μ-loop : tie.MeasureT-loop
-μ-loop k rows s₀ iy₀ s iy = rows - iy
+μ-loop k rows reaches s₀ iy₀ s iy = rows - iy
 
 mul-rows : tie.Need-mul-rows Inv-loop2 μ-loop2 Inv-loop μ-loop
 mul-rows c = omega arith
@@ -25,11 +25,14 @@ mul-rows c = omega arith
 add-rows : tie.Need-add-rows Inv-loop2 μ-loop2 Inv-loop μ-loop
 add-rows c = omega arith
 
+reaches-of-requires : tie.Need-reaches-of-requires Inv-loop2 μ-loop2 Inv-loop μ-loop
+reaches-of-requires c κs = omega arith
+
 loop-holds : tie.Need-loop-holds Inv-loop2 μ-loop2 Inv-loop μ-loop
 loop-holds c = above-none _ _ _
 
 reach-requires : tie.Need-reach-requires Inv-loop2 μ-loop2 Inv-loop μ-loop
-reach-requires c κs = omega arith
+reach-requires c κs = (omega arith, omega arith, c .before .before .reaches-of .ensures)
 
 offset-of-requires : tie.Need-offset-of-requires Inv-loop2 μ-loop2 Inv-loop μ-loop
 offset-of-requires c κs = omega arith
@@ -83,6 +86,7 @@ disk-moments-spec =
     μ-loop
     mul-rows
     add-rows
+    reaches-of-requires
     loop-holds
     reach-requires
     offset-of-requires
