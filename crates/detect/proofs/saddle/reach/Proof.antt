@@ -1,5 +1,4 @@
 -- `detect::saddle::reach` meets its contract. Assumes nothing.
-use native.Mathlib.Omega.{arith}
 use borrow.Author.Needs.{needs}
 use Rattle.detect.proofs.saddle.reach.Statement.{statement}
 use Rattle.detect.proofs.saddle.reach.Tie as tie
