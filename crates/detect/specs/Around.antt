@@ -18,7 +18,7 @@ pub record Reaches (k y r : ℕ) : Type 0 where
 pub record Packs (k p : ℕ) : Type 0 where
   pub is : (y : ℕ) → y < side k → Reaches k y (p / 2 ^ (4 * apart y k) % 16)
 
--- the square around x, y is in an image w wide and h high that has n pixels or fewer
+-- the square of side 2 k + 1 around x, y is in an image w wide and h high, and the image in a buffer of n entries
 pub record Around (k n w h x y : ℕ) : Type 0 where
   pub small : k ≤ 7
   pub inside : Inside w h k x y

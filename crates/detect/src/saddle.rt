@@ -15,6 +15,7 @@ pub struct SaddleTest {
     pub inv_xy: f32,
 }
 
+// The verdict: a saddle, too flat to tell, or curved to one side. Flat is tested first.
 pub enum Saddle {
     Yes,
     Flat,
@@ -52,6 +53,7 @@ fn distance(i: usize, k: usize) -> usize
     i - k
 }
 
+// Looked up once for a disk, so that a row costs a shift.
 fn reaches_of(k: usize) -> usize
     requires { ⌜ k ≤ 7 ⌝ }
     ensures { λ r. ⌜ Packs k r ⌝ }
@@ -73,6 +75,7 @@ fn offset_of(k: usize, i: usize) -> f32
     ((i as u16) as f32) - ((k as u16) as f32)
 }
 
+// A disk is walked a row at a time, from its first column to its last: no place needs a test.
 fn disk_moments(k: usize) -> Moments
     requires { ⌜ k ≤ 7 ⌝ }
     ensures { λ r. ⌜ r ≡ momentsOf k ⌝ }
@@ -142,6 +145,7 @@ pub fn new(k: usize) -> SaddleTest
     }
 }
 
+// Each pixel of the disk around x, y is added to the three sums, in the order of the places.
 fn project(t: SaddleTest, k: usize, image: &[u8], w: usize, h: usize, x: usize, y: usize) -> Sums
     requires { ⌜ Around k (length (now image)) w h x y ⌝ }
     ensures { λ r. ⌜ r ≡ sumsOf t k (pixel (now (image .entry)) w) x y ⌝ }
@@ -172,6 +176,7 @@ fn project(t: SaddleTest, k: usize, image: &[u8], w: usize, h: usize, x: usize, 
     s
 }
 
+// |x|, but that -0 stays, which no comparison sees.
 fn size(x: f32) -> f32
     ensures { λ r. ⌜ r ≡ signless x ⌝ }
 {
@@ -209,7 +214,7 @@ fn judged(t: SaddleTest, k: usize, s: Sums) -> Saddle
     }
 }
 
-// Whether the image, w wide, is a saddle around x, y; the disk lies inside the image.
+// Whether the image, w wide and h high, is a saddle around x, y; the disk lies inside it.
 pub fn accepts(
     t: SaddleTest,
     k: usize,
