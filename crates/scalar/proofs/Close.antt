@@ -2,16 +2,15 @@
 -- (`at-most-32`). Assumes nothing.
 use mathlib.Core.Path.{_≡_, refl, sym, ap, _∙_, subst}
 use mathlib.Core.Bool.{Bool, true, false, not, cond, _&&_}
-use Prim.Native.Nat.{ℕ, zero, suc, _+_, _-_, _*_, _/_, _%_, _^_, _≤_, _<_}
-use native.Mathlib.Nat.{le-trans, le-of-eq, le-of-lt, lt-of-le-of-lt, mul-le-mul-left, mul-le-mul-right, le-of-mul-le-mul-right, mul-comm, mul-assoc, mul-right-comm, mul-left-comm, mul-add, add-mul, mul-one}
+use Prim.Native.Nat.{ℕ, _+_, _-_, _*_, _/_, _%_, _^_, _≤_, _<_}
+use native.Mathlib.Nat.{le-trans, le-of-eq, le-of-lt, mul-le-mul-left, mul-le-mul-right, le-of-mul-le-mul-right, mul-comm, mul-assoc, mul-right-comm, mul-left-comm, mul-add, add-mul, mul-one}
 use native.Mathlib.Omega.{arith}
 use lib.IntN.{ℤ}
 use lib.Dec.{T, leb, lit<, lit≤, leb→le, nleb→lt}
 use lib.Ieee.{Float, nan, inf, fin, up, down, binary32, fits, le, toBits, neg}
 use lib.Ieee.Exact.{HasValue}
-use Rattle.scalar.specs.Log.{unit, sumTop, sumBottom, cutSum, cutThird, unitsOf, plus, minus, whole, doublings, lessOne, moreOne, Close, Within, Near, floatOf, difference, pick, logOf, lowest, highest, leastBits, mostBits, terms, high}
-use Rattle.scalar.specs.Steps.{Room, roomy, aThird, thirdUnits}
-use Rattle.scalar.specs.declared.Log.{Log}
+use Rattle.scalar.specs.Log.{unit, sumTop, sumBottom, cutSum, cutThird, unitsOf, plus, minus, whole, doublings, lessOne, moreOne, Close, Within, Near, floatOf, difference, pick, logOf, lowest, highest, mostBits, terms, high}
+use Rattle.scalar.specs.Steps.{Room, roomy, aThird}
 use Rattle.scalar.specs.declared.Log.the-variants.{Value, Outside}
 use Rattle.scalar.proofs.Squares.{cut-low, cut-high}
 use Rattle.scalar.proofs.Range.{in-range}

@@ -2,7 +2,7 @@
 use mathlib.Core.Path.{_≡_, refl}
 use mathlib.Core.Bool.{true, false}
 use lib.IntN.{pos, negsuc}
-use lib.Ieee.{nan, inf, fin, le, toBits, ofBits}
+use lib.Ieee.{fin, le, toBits, ofBits}
 use Rattle.scalar.specs.Root.{rootBits, rootOf}
 use Rattle.scalar.specs.Log.{logOf, cutThird}
 use Rattle.scalar.specs.declared.Root.the-variants as R

@@ -1,9 +1,8 @@
 -- What other crates may cite of `sqrt` and `ln`: facts on the definitions, whatever the code. Assumes nothing.
 use mathlib.Core.Path.{_≡_, refl, sym, ap, _∙_, subst}
-use mathlib.Core.Bool.{Bool, true, false, cond, _&&_}
+use mathlib.Core.Bool.{Bool, true, false, cond}
 use Prim.Native.Nat.{ℕ, zero, suc, _+_, _-_, _*_, _^_, _≤_, _<_, zero-le}
-use native.Mathlib.Nat.{le-antisymm, le-trans, le-of-eq, le-of-lt, lt-of-lt-of-le, lt-of-le-of-lt, lt-of-not-le, not-le-of-lt, lt-irrefl, mul-le-mul, add-le-add, mul-le-mul-left, mul-le-mul-right, pow-succ', le-refl}
-use native.Mathlib.Decide.{decLe}
+use native.Mathlib.Nat.{le-antisymm, le-trans, le-of-eq, le-of-lt, lt-of-lt-of-le, lt-of-le-of-lt, lt-of-not-le, not-le-of-lt, lt-irrefl, mul-le-mul, add-le-add, pow-succ', le-refl}
 use native.Mathlib.Omega.{arith}
 use lib.Dec.{lit<, lit≤, T, leb, leb→le, le→leb}
 use lib.Ieee.{Float, nan, inf, fin, binary32, fits, le, toBits, ofBits}

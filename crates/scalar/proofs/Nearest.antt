@@ -8,7 +8,7 @@ use native.Mathlib.Nat.{le-trans, le-of-eq, le-of-lt, lt-of-lt-of-le, lt-of-le-o
 use native.Mathlib.Omega.{arith}
 use lib.Dec.{lit<, lit≤, T, leb, leb→le, le→leb}
 use lib.Pow.{pow-add, pow-pos}
-use Rattle.scalar.specs.Bits.{infinite, val, middle, greatest}
+use Rattle.scalar.specs.Bits.{val, middle, greatest}
 use Rattle.scalar.specs.Root.{middleSquared, fourfold, IsRoot, rootBits}
 use Rattle.scalar.specs.Steps.{Scales, Rounds, leastScaled}
 use Rattle.scalar.proofs.Squares.{square-lt}

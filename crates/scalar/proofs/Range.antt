@@ -1,8 +1,8 @@
 -- A value of binary32 from 2 ^ -6 to 2 ^ H has a pattern from `leastBits` to `mostBits H` (`in-range`), and what the parts of that pattern are (`parts`).
 -- Assumes nothing.
-use mathlib.Core.Path.{_≡_, refl, sym, ap, _∙_, subst}
+use mathlib.Core.Path.{_≡_, sym, ap, _∙_, subst}
 use mathlib.Core.Bool.{Bool, true, false, not, _||_, _&&_}
-use Prim.Native.Nat.{ℕ, zero, suc, _+_, _-_, _*_, _/_, _%_, _^_, _≤_, _<_}
+use Prim.Native.Nat.{ℕ, suc, _+_, _-_, _*_, _/_, _%_, _^_, _≤_, _<_}
 use native.Mathlib.Nat.{le-trans, le-of-eq, le-of-lt, lt-of-le-of-lt, lt-of-not-le, not-le-of-lt, lt-irrefl, mul-le-mul-right, mul-lt-mul-of-pos-right, le-of-mul-le-mul-right, mul-right-comm, mul-comm, mul-assoc, one-mul, mul-one}
 use native.Mathlib.Omega.{arith}
 use lib.IntN.{ℤ, pos, negsuc}

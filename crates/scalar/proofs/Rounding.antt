@@ -7,7 +7,7 @@ use Prim.Native.Nat.{ℕ, zero, suc, _+_, _-_, _*_, _/_, _%_, _^_, _≤_, _<_, c
 use native.Mathlib.Nat.{le-trans, le-of-eq, le-of-lt, lt-of-le-of-lt, lt-of-lt-of-le, eq-or-lt-of-le, mul-pos, mul-le-mul, mul-le-mul-right, eq-of-mul-eq-mul-right, mul-comm, mul-assoc, mul-right-comm, add-mul, one-mul, mul-one, mod-lt, div-add-mod', div-one, suc-mul, lt-of-not-le, not-le-of-lt, sub-le, zero-lt-suc, div-div-eq-div-mul}
 use native.Mathlib.Omega.{arith}
 use lib.IntN.{pos}
-use lib.Dec.{T, leb, eqb, isLe, isEq, leb→le, nleb→lt, eqb→eq, eqb-refl, lit<, lit≤}
+use lib.Dec.{T, eqb, isLe, isEq, leb→le, nleb→lt, eqb→eq, eqb-refl, lit<, lit≤}
 use lib.Arith.{lt-of-le-ne}
 use lib.Pow.{pow-pos, pow-mono, pow-add, shl-lt}
 use lib.Ieee.{Float, nan, inf, fin, up, down, binary32, round, div, nearest, size, ofInt}

@@ -1,8 +1,8 @@
 -- Laws of squares: a step of Newton's never falls below the whole root (`newton-high`) and goes down from above it (`newton-less`), and a whole root rounds to
 -- a nearest one (`rounds-down`, `rounds-up`). Assumes nothing.
-use mathlib.Core.Path.{_≡_, sym, ap, _∙_, subst}
+use mathlib.Core.Path.{_≡_, subst}
 use Prim.Native.Nat.{ℕ, suc, _+_, _-_, _*_, _/_, _^_, _≤_, _<_}
-use native.Mathlib.Nat.{le-trans, le-of-eq, le-of-lt, lt-of-lt-of-le, lt-of-le-of-lt, lt-of-not-le, not-le-of-lt, lt-suc-self, mul-le-mul, mul-le-mul-left, mul-le-mul-right, mul-lt-mul-of-pos-right, mul-comm, mul-add, add-mul, div-mul-le-self, div-lt-iff-lt-mul}
+use native.Mathlib.Nat.{le-of-lt, lt-of-le-of-lt, lt-of-not-le, not-le-of-lt, lt-suc-self, mul-le-mul, mul-le-mul-left, mul-lt-mul-of-pos-right, mul-comm, mul-add, add-mul, div-mul-le-self, div-lt-iff-lt-mul}
 use native.Mathlib.Decide.{decLe}
 use native.Mathlib.Omega.{arith}
 use lib.Dec.{lit<}

@@ -29,7 +29,7 @@ unfolding sumBottom
 sumTop zero p q = 0
 sumTop (suc j) p q = sumTop j p q * ((2 * j + 1) * q ^ (2 * j + 1)) + p ^ (2 * j + 1) * sumBottom j q
 
--- Document 01, "For 2^e·m with m from 1 to below 2": of the pattern b of that number, e + 6, and m − 1 and m + 1 both times 2 ^ 23.
+-- Document 01, "For 2^e·m with m from 1 to below 2": of the pattern b of that number, e + 6, and m − 1 and m + 1 both times 2 ^ 23 (`parts` of proofs/Range).
 abbrev pub doublings : ℕ → ℕ
 doublings b = b / 8388608 - 121
 

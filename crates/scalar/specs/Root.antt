@@ -1,5 +1,5 @@
 -- The correctly rounded square root of an f32, stated by comparing squares of whole numbers.
-use mathlib.Core.Bool.{Bool, true, false}
+use mathlib.Core.Bool.{true, false}
 use Prim.Native.Nat.{ℕ, _+_, _*_, _^_, _≤_, _<_}
 use lib.Dec.{leb}
 use lib.Ieee.{Float, nan, inf, fin, binary32, toBits, ofBits}

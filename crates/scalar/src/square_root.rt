@@ -11,6 +11,7 @@ pub const INFINITE: u32 = 2139095040;
 // 2^23: a pattern divided by it is the exponent's field, and the remainder the digits.
 const FIELD: u32 = 8388608;
 
+// The same, 64 bits wide.
 const WIDE_FIELD: u64 = 8388608;
 
 // 2^46: the root of a number from here to 2^48 has 24 digits.
