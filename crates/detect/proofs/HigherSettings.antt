@@ -2,7 +2,7 @@
 -- in order and bit for bit, for every map: values that are infinite or no number included. Assumes nothing.
 use mathlib.Core.Path.{_≡_, refl, sym, ap, _∙_}
 use mathlib.Core.Bool.{Bool, true, false, not, _&&_, and-false}
-use Prim.Native.Nat.{ℕ, _*_, _/_, _≤_, _<_}
+use Prim.Native.Nat.{ℕ, _*_, _/_, _≤_}
 use native.Mathlib.Omega.{arith}
 use borrow.Author.Tests.{eq-eqb}
 use mathlib.Core.List.{List}
@@ -18,7 +18,7 @@ use Rattle.grid.specs.Over.{written, opening}
 use Rattle.grid.specs.Ways.{pixel}
 use Rattle.params.specs.declared.RadonDetectorParams.{RadonDetectorParams}
 use Rattle.params.specs.Answers.{numberOf}
-use Rattle.params.specs.Refusals.{listRefusal, mapRefusal, roomRefusal, orElse}
+use Rattle.params.specs.Refusals.{listRefusal, mapRefusal}
 use Rattle.params.specs.Accepted.{ListPasses, both-pass, list-passes}
 use Rattle.detect.specs.declared.saddle.Saddle.{Saddle}
 use Rattle.detect.specs.declared.saddle.Saddle.the-variants.{Yes, Flat, Curved}

@@ -3,8 +3,8 @@
 use mathlib.Core.Path.{_≡_, refl, sym, ap, _∙_}
 use mathlib.Core.Logic.{_⊎_, inl, inr}
 use mathlib.Core.Bool.{Bool, true, false, _||_, _&&_, not, and-false, and-true}
-use borrow.Author.Tests.{eq-eqb, ne-eqb, eqb-true}
-use Prim.Native.Nat.{ℕ, zero, suc, _+_, _-_, _*_, _≤_, _<_}
+use borrow.Author.Tests.{eq-eqb, ne-eqb}
+use Prim.Native.Nat.{ℕ, _+_, _-_, _*_, _≤_, _<_}
 use native.Mathlib.Omega.{arith}
 use mathlib.Core.List.{List, [], _∷_, _++_}
 use lib.ListN.{getD, length, take, drop, length-take, length-drop}
@@ -13,8 +13,8 @@ use lib.Dec.{eqb}
 use lib.Ieee.{Float, nan, lt}
 use Rattle.float.specs.Values.{f0}
 use Rattle.grid.specs.Plane.{row-in, next-row, row-above}
-use Rattle.grid.specs.Each.{any, count, count-append, count-none, count-yes, count-no, keep}
-use Rattle.grid.specs.Rect.{Place, place, rect, line, range, before, after, rect-at, any-in, any-line-none, count-line, count-range-ext, keep-line-ext, keep-rect-ext}
+use Rattle.grid.specs.Each.{any, count, count-append, count-none, count-yes, count-no}
+use Rattle.grid.specs.Rect.{Place, place, rect, line, range, before, rect-at, any-in, any-line-none, count-line, count-range-ext, keep-line-ext, keep-rect-ext}
 use Rattle.detect.specs.Window.{value, at, window, same, beaten, positives}
 use Rattle.detect.specs.Above.{entry, over, Next}
 

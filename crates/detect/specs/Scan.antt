@@ -2,7 +2,7 @@
 use mathlib.Core.Path.{_≡_, refl, sym, ap, _∙_}
 use mathlib.Core.Logic.{_⊎_, inl, inr}
 use mathlib.Core.Bool.{Bool, true, false, not}
-use Prim.Native.Nat.{ℕ, _+_, _-_, _*_, _/_, _≤_, _<_, _^_, max}
+use Prim.Native.Nat.{ℕ, _+_, _-_, _*_, _/_, _≤_, _<_, _^_}
 use native.Mathlib.Omega.{arith}
 use mathlib.Core.List.{List, [], _∷_}
 use native.Mathlib.Nat.{zero-mul, mul-zero, div-add-mod'}
@@ -17,7 +17,6 @@ use Rattle.grid.specs.Plane.{plane}
 use Rattle.grid.specs.Each.{keep-none}
 use Rattle.grid.specs.Rect.{Place, place, rect, Across, across-none, across-more, across-skip, down-more, Down, down-none, down-all, length-rect}
 use Rattle.grid.specs.Over.{written, Listed, listed-none, Onward, onward-none, onward-no, onward-full, onward-put, sets-three}
-use Rattle.grid.specs.Ways.{Inside}
 use Rattle.params.specs.declared.RadonDetectorParams.{RadonDetectorParams}
 use Rattle.params.specs.Settings.{rayOf}
 use Rattle.detect.specs.declared.saddle.SaddleTest.{SaddleTest}
