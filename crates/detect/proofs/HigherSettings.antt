@@ -25,7 +25,7 @@ use Rattle.detect.specs.declared.saddle.Saddle.the-variants.{Yes, Flat, 
 use Rattle.detect.specs.Window.{at, value, beaten, positives}
 use Rattle.detect.specs.Corners.{borderOf, candidates, peak, floorOf, firstFailing, isSaddle, isKept, verdict, corners, numbers, stride}
 use Rattle.detect.specs.Detected.{workingRefusal, peaksRefusal, refusalFor, foundIn, listOf}
-use Rattle.detect.specs.Scan.{numbers-long}
+use Rattle.detect.proofs.Scanning.{numbers-long}
 use Rattle.detect.proofs.Kept.{peak-nonneg}
 
 -- the same settings with another fraction and another least count

@@ -13,7 +13,7 @@ use Rattle.params.specs.Answers.{numberOf, refused}
 use Rattle.detect.specs.Window.{value}
 use Rattle.detect.specs.Corners.{numbers, stride}
 use Rattle.detect.specs.Detected.{refusalFor, foundIn, fullOr, outcomeOf, listOf}
-use Rattle.detect.specs.Scan.{numbers-long}
+use Rattle.detect.proofs.Scanning.{numbers-long}
 use Rattle.detect.proofs.HigherSettings.{accepted-list}
 
 module _ (s : RadonDetectorParams) (w h : ℕ) (resp : List Float) (image : List ℕ) where

@@ -3,7 +3,7 @@ use mathlib.Core.Path.{ap, _∙_}
 use Prim.Native.Nat.{_/_}
 use Rattle.detect.specs.Detected.{peaksRefusal, fullOr}
 use Rattle.detect.specs.Corners.{stride}
-use Rattle.detect.specs.Allowed.{refuses, passes-on, answers}
+use Rattle.detect.proofs.Allowing.{refuses, passes-on, answers}
 use borrow.Author.Needs.{needs}
 use Rattle.detect.proofs.detect_peaks_from_radon.Statement.{statement}
 use Rattle.detect.proofs.detect_peaks_from_radon.Tie as tie

@@ -3,7 +3,7 @@ use native.Mathlib.Nat.{mul-le-mul}
 use mir.Facts.{fits-le, fits-lit}
 use Rattle.params.specs.Accepted.{stage-refuses, stage-passes, stage-zero}
 use Rattle.detect.specs.Detected.{peaksRefusal}
-use Rattle.detect.specs.Allowed.{working-passes}
+use Rattle.detect.proofs.Allowing.{working-passes}
 use borrow.Author.Needs.{needs}
 use Rattle.detect.proofs.judge.Statement.{statement}
 use Rattle.detect.proofs.judge.Tie as tie

@@ -1,7 +1,8 @@
 -- `detect::above::max_response` meets its contract. The invariant is `Leads`: the greatest so far, and the next entry beats it. Assumes nothing.
 use Prim.Native.Nat.{_-_}
 use native.Mathlib.Omega.{arith}
-use Rattle.detect.specs.Above.{entry, Leads, leads-none, leads-more, leads-all}
+use Rattle.detect.specs.Above.{entry}
+use Rattle.detect.proofs.Passing.{Leads, leads-none, leads-more, leads-all}
 use Rattle.detect.proofs.above.max_response.Statement.{statement}
 use Rattle.detect.proofs.above.max_response.Tie as tie
 

@@ -2,7 +2,8 @@
 use mathlib.Core.Path.{sym, _∙_}
 use Prim.Native.Nat.{_-_}
 use native.Mathlib.Omega.{arith}
-use Rattle.detect.specs.Above.{over, Passed, passed-none, passed-one, passed-eight, next-found, next-none}
+use Rattle.detect.specs.Above.{over}
+use Rattle.detect.proofs.Passing.{Passed, passed-none, passed-one, passed-eight, next-found, next-none}
 use Rattle.detect.proofs.above.next_above.Statement.{statement}
 use Rattle.detect.proofs.above.next_above.Tie as tie
 

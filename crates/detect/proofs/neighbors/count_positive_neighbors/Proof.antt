@@ -9,7 +9,7 @@ use Rattle.float.specs.Values.{f0}
 use Rattle.grid.specs.Each.{count, count-none, count-append, count-most}
 use Rattle.grid.specs.Rect.{Place, place, line, Down, down-none, down-row, down-all, length-line}
 use Rattle.detect.specs.Window.{value, at, window}
-use Rattle.detect.specs.Room.{room-row, part-length, part-count, positives-more, positives-same}
+use Rattle.detect.proofs.Windows.{room-row, part-length, part-count, positives-more, positives-same}
 use Rattle.detect.proofs.neighbors.count_positive_neighbors.Statement.{statement}
 use Rattle.detect.proofs.neighbors.count_positive_neighbors.Tie as tie
 

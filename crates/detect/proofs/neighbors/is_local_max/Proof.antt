@@ -9,7 +9,7 @@ use lib.Ieee.{Float, lt}
 use Rattle.grid.specs.Each.{any, any-none, any-append}
 use Rattle.grid.specs.Rect.{Place, Down, down-none, down-row, down-all}
 use Rattle.detect.specs.Window.{value, at}
-use Rattle.detect.specs.Room.{room-row, nearest-beats, beaten-is, part-free, part-beats}
+use Rattle.detect.proofs.Windows.{room-row, nearest-beats, beaten-is, part-free, part-beats}
 use Rattle.detect.proofs.neighbors.is_local_max.Statement.{statement}
 use Rattle.detect.proofs.neighbors.is_local_max.Tie as tie
 

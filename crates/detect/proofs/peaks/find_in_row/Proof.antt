@@ -8,7 +8,8 @@ use Rattle.grid.specs.Plane.{row-in}
 use Rattle.grid.specs.Ways.{pixel}
 use Rattle.detect.specs.Window.{value}
 use Rattle.detect.specs.Corners.{borderOf, isKept}
-use Rattle.detect.specs.Scan.{Scanned, scan-none, scan-all, Candidate, near-room, row-length, run-over, turn-no, turn-full, turn-put, nearer}
+use Rattle.detect.specs.Scan.{Candidate}
+use Rattle.detect.proofs.Scanning.{Scanned, scan-none, scan-all, near-room, row-length, run-over, turn-no, turn-full, turn-put, nearer}
 use Rattle.detect.proofs.peaks.find_in_row.Statement.{statement}
 use Rattle.detect.proofs.peaks.find_in_row.Tie as tie
 

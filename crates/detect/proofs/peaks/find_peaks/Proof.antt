@@ -7,7 +7,7 @@ use lib.Seq.{length-take-le}
 use Rattle.grid.specs.Ways.{pixel}
 use Rattle.detect.specs.Saddle.{saddleOf}
 use Rattle.detect.specs.Window.{value}
-use Rattle.detect.specs.Scan.{FoundTo, found-none, found-more, found-all, none-found, floor-is}
+use Rattle.detect.proofs.Scanning.{FoundTo, found-none, found-more, found-all, none-found, floor-is}
 use Rattle.detect.proofs.peaks.find_peaks.Statement.{statement}
 use Rattle.detect.proofs.peaks.find_peaks.Tie as tie
 

@@ -2,7 +2,7 @@
 use mathlib.Core.Path.{ap}
 use Rattle.params.specs.declared.Input.{Input}
 use Rattle.detect.specs.Corners.{inputAt}
-use Rattle.detect.specs.Scan.{coordinate}
+use Rattle.detect.proofs.Scanning.{coordinate}
 use borrow.Author.Needs.{needs}
 use Rattle.detect.proofs.peaks.input_at.Statement.{statement}
 use Rattle.detect.proofs.peaks.input_at.Tie as tie

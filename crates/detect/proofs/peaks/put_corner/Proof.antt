@@ -1,8 +1,8 @@
 -- `detect::peaks::put_corner` meets its contract: three stores are the corner's numbers. Assumes nothing.
 use native.Mathlib.Omega.{arith}
 use lib.ListN.{length-set}
-use Rattle.detect.specs.Room.{cross}
-use Rattle.detect.specs.Scan.{stored}
+use Rattle.detect.proofs.Windows.{cross}
+use Rattle.detect.proofs.Scanning.{stored}
 use borrow.Author.Needs.{needs}
 use Rattle.detect.proofs.peaks.put_corner.Statement.{statement}
 use Rattle.detect.proofs.peaks.put_corner.Tie as tie

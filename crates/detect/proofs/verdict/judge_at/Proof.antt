@@ -5,8 +5,8 @@ use borrow.Author.Tests.{le-leb, lt-leb}
 use Rattle.grid.specs.Rect.{place}
 use Rattle.grid.specs.Ways.{pixel}
 use Rattle.detect.specs.Window.{value}
-use Rattle.detect.specs.Room.{room-row}
-use Rattle.detect.specs.Scan.{window-room, judged, saddle-is}
+use Rattle.detect.proofs.Windows.{room-row}
+use Rattle.detect.proofs.Scanning.{window-room, judged, saddle-is}
 use borrow.Author.Needs.{needs}
 use Rattle.detect.proofs.verdict.judge_at.Statement.{statement}
 use Rattle.detect.proofs.verdict.judge_at.Tie as tie
