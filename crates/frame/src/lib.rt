@@ -1,4 +1,4 @@
-// The frame file: which bytes are taken, and what they mean.
+// The frame file: which bytes are taken, and what they mean. The printed list, line by line.
 use fields::Field;
 use fields::FitField;
 use params::Answer;
@@ -10,6 +10,7 @@ ghost use lib.ListN.{length, drop};
 ghost use Rattle.frame.specs.FrameFile.{pick, byteAt, headerOf, readOf};
 
 mod fields;
+mod text;
 
 // What the fields of a frame file say.
 pub struct Header {
@@ -103,4 +104,10 @@ pub fn pixels(file: &[u8]) -> &[u8]
         return &file[n..];
     }
     &file[HEADER..]
+}
+
+// A printed line: its bytes from the first on, its length, and zeros behind it.
+pub struct Line {
+    pub bytes: [u8; 64],
+    pub len: usize,
 }

@@ -1,0 +1,58 @@
+-- How a line is put together: text after text is appended to it. Assumes nothing.
+use mathlib.Core.Path.{_≡_, refl, sym, ap, _∙_}
+use mathlib.Core.List.{List, [], _∷_, _++_}
+use Prim.Native.Nat.{ℕ, zero, suc, _+_, _-_, _≤_}
+use native.Mathlib.Nat.{add-assoc, add-suc, add-zero, zero-add, suc-sub-suc, sub-zero, zero-sub}
+use native.Mathlib.Omega.{arith}
+use lib.ListN.{length, replicate, drop, length-append, length-replicate}
+use lib.Seq.{sets, sets-eq}
+use Rattle.frame.specs.declared.Line.{Line}
+use Rattle.frame.specs.Lines.{lineOf, Shows}
+
+unfoldable pub appended : Line → List ℕ → Line
+appended l text = record { bytes = sets (l .bytes) (l .len) text; len = l .len + length text }
+
+-- r is l with text behind it, and that is no more than k bytes
+pub record Grown (k : ℕ) (l : Line) (text : List ℕ) (r : Line) : Type 0 where
+  pub is : r ≡ appended l text
+  pub most : length text ≤ k
+
+sets-more : (l : List ℕ) (i : ℕ) (a b : List ℕ) → sets (sets l i a) (i + length a) b ≡ sets l i (a ++ b)
+sets-more l i [] b = rw add-zero
+sets-more l i (c ∷ a) b =
+    let e : i + suc (length a) ≡ suc i + length a = omega arith in
+    rw e (sets-more _ (suc i) a b)
+
+pub appended-more : (l : Line) (a b : List ℕ) → appended (appended l a) b ≡ appended l (a ++ b)
+unfolding appended
+appended-more l a b = λ j. record {
+  bytes = sets-more (l .bytes) (l .len) a b j;
+  len = (add-assoc (l .len) (length a) (length b) ∙ ap (λ (n : ℕ). l .len + n) (sym (length-append a b))) j;
+}
+
+pub grown-more : {j k : ℕ} {l m r : Line} {a b : List ℕ} → Grown j l a m → Grown k m b r → Grown (j + k) l (a ++ b) r
+grown-more {a = a} {b = b} g h = record {
+  is = h .is ∙ ap (λ (x : Line). appended x b) (g .is) ∙ appended-more _ a b;
+  most = omega (arith, length-append a b);
+}
+
+-- the line before anything is appended
+abbrev pub blank : Line
+blank = record { bytes = replicate 64 0; len = 0 }
+
+drop-zeros : (k n : ℕ) → drop {A = ℕ} k (replicate n 0) ≡ replicate (n - k) 0
+drop-zeros zero n = rw sub-zero
+drop-zeros (suc k) zero = rw zero-sub
+drop-zeros (suc k) (suc n) = rw suc-sub-suc (drop-zeros k n)
+
+shown-at : (text : List ℕ) → length text ≤ 64 → appended blank text ≡ lineOf text
+unfolding appended
+shown-at text h = λ j. record {
+  bytes = (sets-eq text (replicate 64 0) 0 (omega (arith, length-replicate {A = ℕ} 64 0)) ∙ ap (λ (r : List ℕ). text ++ r) (drop-zeros (0 + length text) 64 ∙ ap (λ (n : ℕ). replicate (64 - n) 0) (zero-add (length text)))) j;
+  len = zero-add (length text) j;
+}
+
+pub shown : {k : ℕ} {text : List ℕ} {r : Line} → Grown k blank text r → k ≤ 64 → Shows text r
+shown {text = text} g h =
+    let f : length text ≤ 64 = omega (arith, g .most) in
+    record { is = g .is ∙ shown-at text f; fits = f }
