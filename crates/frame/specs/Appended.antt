@@ -1,11 +1,12 @@
 -- How a line is put together: text after text is appended to it. Assumes nothing.
 use mathlib.Core.Path.{_≡_, refl, sym, ap, _∙_}
 use mathlib.Core.List.{List, [], _∷_, _++_}
-use Prim.Native.Nat.{ℕ, zero, suc, _+_, _-_, _≤_}
+use Prim.Native.Nat.{ℕ, zero, suc, _+_, _-_, _≤_, _<_}
 use native.Mathlib.Nat.{add-assoc, add-suc, add-zero, zero-add, suc-sub-suc, sub-zero, zero-sub}
+use native.Mathlib.Numerals.{add-one}
 use native.Mathlib.Omega.{arith}
-use lib.ListN.{length, replicate, drop, length-append, length-replicate}
-use lib.Seq.{sets, sets-eq}
+use lib.ListN.{length, getD, take, replicate, drop, length-append, length-replicate}
+use lib.Seq.{sets, sets-eq, take-suc, take-all, length-take-le}
 use Rattle.frame.specs.declared.Line.{Line}
 use Rattle.frame.specs.Lines.{lineOf, Shows}
 
@@ -36,9 +37,19 @@ grown-more {a = a} {b = b} g h = record {
   most = omega (arith, length-append a b);
 }
 
+pub appended-len : (l : Line) (text : List ℕ) {r : Line} → r ≡ appended l text → r .len ≡ l .len + length text
+unfolding appended
+appended-len l text e = ap (λ (x : Line). x .len) e
+
+pub grown-len : {k : ℕ} {l r : Line} {text : List ℕ} → Grown k l text r → r .len ≤ l .len + k
+grown-len {l = l} {text = text} g = omega (arith, appended-len l text (g .is), g .most)
+
 -- the line before anything is appended
 abbrev pub blank : Line
 blank = record { bytes = replicate 64 0; len = 0 }
+
+pub empty-len : {r : Line} → r ≡ blank → r .len ≡ 0
+empty-len e = ap (λ (x : Line). x .len) e
 
 drop-zeros : (k n : ℕ) → drop {A = ℕ} k (replicate n 0) ≡ replicate (n - k) 0
 drop-zeros zero n = rw sub-zero
@@ -52,7 +63,32 @@ shown-at text h = λ j. record {
   len = zero-add (length text) j;
 }
 
-pub shown : {k : ℕ} {text : List ℕ} {r : Line} → Grown k blank text r → k ≤ 64 → Shows text r
-shown {text = text} g h =
+pub shown : {k : ℕ} {text : List ℕ} {l r : Line} → l ≡ blank → Grown k l text r → k ≤ 64 → Shows text r
+shown {text = text} e g h =
     let f : length text ≤ 64 = omega (arith, g .most) in
-    record { is = g .is ∙ shown-at text f; fits = f }
+    record { is = g .is ∙ ap (λ (l : Line). appended l text) e ∙ shown-at text f; fits = f }
+
+-- ---- a text that is copied byte by byte
+
+pub record Copied (line : Line) (s : List ℕ) (longer : Line) (i : ℕ) : Type 0 where
+  pub most : i ≤ length s
+  pub is : longer ≡ appended line (take i s)
+
+module _ (line : Line) (s : List ℕ) where
+  pub copied-none : Copied line s line 0
+  unfolding appended
+  copied-none = record { most = omega arith; is = ap (λ (n : ℕ). record { bytes = line .bytes; len = n }) (sym (add-zero (line .len))) }
+
+  module _ {longer : Line} {i : ℕ} (c : Copied line s longer i) where
+    pub copied-len : longer .len ≡ line .len + i
+    copied-len = appended-len line (take i s) (c .is) ∙ ap (λ (n : ℕ). line .len + n) (length-take-le i s (c .most))
+
+    pub copied-more : {r : Line} → i < length s → r ≡ appended longer (getD s i 0 ∷ []) → Copied line s r (i + 1)
+    copied-more {r} h e = record { most = omega arith; is = is }
+      where
+        is : r ≡ appended line (take (i + 1) s)
+        is = e ∙ ap (λ (l : Line). appended l (getD s i 0 ∷ [])) (c .is) ∙ appended-more line (take i s) (getD s i 0 ∷ [])
+            ∙ ap (appended line) (sym (take-suc s i 0 h) ∙ ap (λ (n : ℕ). take n s) (sym (add-one i)))
+
+    pub copied-all : length s ≤ i → longer ≡ appended line s
+    copied-all h = c .is ∙ ap (appended line) (take-all i s h)

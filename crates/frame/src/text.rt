@@ -6,8 +6,10 @@ ghost use mathlib.Core.Path.{_≡_};
 ghost use Prim.Native.Nat.{_+_, _-_, _≤_, _<_};
 ghost use lib.Dec.{ltb, leb};
 ghost use lib.ListN.{length};
-ghost use Rattle.frame.specs.Printed.{digitOf, numeral};
-ghost use Rattle.frame.specs.Appended.{blank, appended};
+ghost use lib.Ieee.{binary32, toBits};
+ghost use Rattle.frame.specs.Printed.{digitOf, numeral, refusedLine, firstLine, cornerLine, fullLine};
+ghost use Rattle.frame.specs.Lines.{Shows};
+ghost use Rattle.frame.specs.Appended.{blank, appended, Grown};
 
 // A line with nothing on it.
 pub fn empty() -> Line
@@ -64,4 +66,81 @@ pub fn number(line: Line, base: usize, least: usize, n: usize) -> Line
     }
     let higher = number(line, base, less_one(least), n / base);
     push(higher, digit(n % base))
+}
+
+// A text.
+fn append(line: Line, s: &[u8]) -> Line
+    requires { ⌜ line .len + length (now s) ≤ 64 ⌝ }
+    ensures { λ r. ⌜ r ≡ appended line (now (s .entry)) ⌝ }
+{
+    let mut longer = line;
+    let mut i = 0;
+    while i < s.len() {
+        longer = push(longer, s[i]);
+        i += 1;
+    }
+    longer
+}
+
+// A number in decimal, and a byte behind it.
+fn decimal(line: Line, n: usize, end: u8) -> Line
+    requires { ⌜ line .len + 21 ≤ 64 ⌝ }
+    ensures { λ r. ⌜ Grown 21 line (numeral 10 1 n ++ (end ∷ [])) r ⌝ }
+{
+    push(number(line, 10, 1, n), end)
+}
+
+// The bits of a float. A NaN has no bits of its own: here they are 7FC00000.
+fn bits(x: f32) -> u32
+    ensures { λ r. ⌜ r ≡ toBits binary32 x ⌝ }
+{
+    if x == x {
+        return f32::to_bits(x);
+    }
+    0x7fc0_0000
+}
+
+// The bits of a float in eight digits, and a byte behind them.
+fn word(line: Line, x: f32, end: u8) -> Line
+    requires { ⌜ line .len + 9 ≤ 64 ⌝ }
+    ensures { λ r. ⌜ Grown 9 line (numeral 16 8 (toBits binary32 x) ++ (end ∷ [])) r ⌝ }
+{
+    push(number(line, 16, 8, bits(x) as usize), end)
+}
+
+const BLANK: u8 = b' ';
+
+const LINE_FEED: u8 = b'\n';
+
+// A refusal's only line.
+pub fn refused(n: u32) -> Line
+    ensures { λ r. ⌜ Shows (refusedLine n) r ⌝ }
+{
+    let line = append(empty(), b"refused ");
+    decimal(line, n as usize, LINE_FEED)
+}
+
+// The first line of a list.
+pub fn first(w: usize, h: usize, count: usize) -> Line
+    ensures { λ r. ⌜ Shows (firstLine w h count) r ⌝ }
+{
+    let line = decimal(empty(), w, BLANK);
+    let line = decimal(line, h, BLANK);
+    decimal(line, count, LINE_FEED)
+}
+
+// A corner's line.
+pub fn corner(x: f32, y: f32, strength: f32) -> Line
+    ensures { λ r. ⌜ Shows (cornerLine (x ∷ y ∷ strength ∷ [])) r ⌝ }
+{
+    let line = word(empty(), x, BLANK);
+    let line = word(line, y, BLANK);
+    word(line, strength, LINE_FEED)
+}
+
+// The last line of a list that is full.
+pub fn full() -> Line
+    ensures { λ r. ⌜ Shows fullLine r ⌝ }
+{
+    append(empty(), b"list full\n")
 }
