@@ -53,7 +53,6 @@ pick false a b = b
 -- "Byte 0: version 1. Bytes 1 to 4: number of bytes that follow them."
 -- "lowest first: 10 over 2,324 bytes; 11 under 20 bytes; 12 version not 1; 13 stated length wrong; 14 mode above 1": 2,324 is `limit`
 unfoldable pub readOf : ℕ → List ℕ → Reading
-unfolding headerOf
 readOf limit file =
     pick (ltb limit (length file)) (Refused FileTooLong)
     (pick (ltb (length file) 20) (Refused FileTooShort)

@@ -20,7 +20,6 @@ digitsIn (suc depth) base least n = elim (ltb n base && leb least 1) [
 ]
 
 unfoldable pub digits : ℕ → ℕ → ℕ → List ℕ
-unfolding digitsIn
 digits base least n = digitsIn (suc (n + least)) base least n
 
 -- 0 to 9, then A to F
@@ -28,7 +27,6 @@ abbrev pub digitOf : ℕ → ℕ
 digitOf d = getD (48 ∷ 49 ∷ 50 ∷ 51 ∷ 52 ∷ 53 ∷ 54 ∷ 55 ∷ 56 ∷ 57 ∷ 65 ∷ 66 ∷ 67 ∷ 68 ∷ 69 ∷ 70 ∷ []) d 0
 
 unfoldable pub numeral : ℕ → ℕ → ℕ → List ℕ
-unfolding digits
 numeral base least n = map digitOf (digits base least n)
 
 -- "in decimal"
@@ -49,21 +47,17 @@ row (f ∷ g ∷ fs) = f ++ (32 ∷ row (g ∷ fs))
 
 -- "A refusal prints `refused N`"
 unfoldable pub refusedLine : ℕ → List ℕ
-unfolding row numeral
 refusedLine n = row ((114 ∷ 101 ∷ 102 ∷ 117 ∷ 115 ∷ 101 ∷ 100 ∷ []) ∷ decimal n ∷ [])
 
 -- "the first line is W, H and the count in decimal"
 unfoldable pub firstLine : ℕ → ℕ → ℕ → List ℕ
-unfolding row numeral
 firstLine w h count = row (decimal w ∷ decimal h ∷ decimal count ∷ [])
 
 -- "each stored corner as x, y and strength bits": a corner is `stride` numbers
 unfoldable pub cornerLine : List Float → List ℕ
-unfolding row numeral
 cornerLine corner = row (map word corner)
 
 unfoldable pub cornerLines : ℕ → ℕ → List Float → List (List ℕ)
-unfolding cornerLine
 cornerLines stride zero list = []
 cornerLines stride (suc n) list = cornerLine (take stride list) ∷ cornerLines stride n (drop stride list)
 
@@ -73,11 +67,9 @@ stored stride count list = min count (length list / stride)
 
 -- "With answer 1 a last line `list full` follows"
 unfoldable pub fullLine : List ℕ
-unfolding row
 fullLine = row ((108 ∷ 105 ∷ 115 ∷ 116 ∷ []) ∷ (102 ∷ 117 ∷ 108 ∷ 108 ∷ []) ∷ [])
 
 abbrev pub lastLines : Bool → List (List ℕ)
-unfolding fullLine
 lastLines true = fullLine ∷ []
 lastLines false = []
 
@@ -87,7 +79,6 @@ pickLines false a b = b
 
 -- answers above 1 are refusals
 unfoldable pub printed : ℕ → Outcome → List Float → List (List ℕ)
-unfolding refusedLine firstLine cornerLines
 printed stride o list =
     pickLines (ltb 1 (numberOf (o .answer)))
     (refusedLine (numberOf (o .answer)) ∷ [])

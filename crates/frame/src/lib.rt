@@ -2,12 +2,16 @@
 use fields::Field;
 use fields::FitField;
 use params::Answer;
+use params::Outcome;
 use params::RadonDetectorParams;
 ghost use mathlib.Core.Path.{_≡_};
-ghost use Prim.Native.Nat.{_≤_};
+ghost use mathlib.Core.List.{[]};
+ghost use Prim.Native.Nat.{_/_, _≤_, min};
 ghost use lib.Dec.{ltb};
-ghost use lib.ListN.{length, drop};
+ghost use lib.ListN.{length, getD, drop};
 ghost use Rattle.frame.specs.FrameFile.{pick, byteAt, headerOf, readOf};
+ghost use Rattle.frame.specs.Printed.{printed};
+ghost use Rattle.frame.specs.Lines.{Shows};
 
 mod fields;
 mod text;
@@ -110,4 +114,60 @@ pub fn pixels(file: &[u8]) -> &[u8]
 pub struct Line {
     pub bytes: [u8; 64],
     pub len: usize,
+}
+
+// How many numbers a corner has.
+const STRIDE: usize = 3;
+
+// The corners that the list holds: as many whole ones as fit.
+fn stored(count: usize, len: usize) -> usize
+    ensures { λ r. ⌜ r ≡ min count (len / 3) ⌝ }
+{
+    let room = len / STRIDE;
+    if count < room { count } else { room }
+}
+
+// How many lines are printed.
+pub fn lines(o: Outcome, list: &[f32]) -> usize
+    ensures { λ r. ⌜ r ≡ length (printed 3 o (now (list .entry))) ⌝ }
+{
+    let answer = o.answer;
+    let n = answer.number();
+    if n > 1 {
+        return 1;
+    }
+    let corners = stored(o.count, list.len());
+    if n == 1 {
+        return corners + 2;
+    }
+    corners + 1
+}
+
+// Line i of those, counted from 0; past the last it is empty.
+pub fn line_at(o: Outcome, list: &[f32], i: usize) -> Line
+    ensures { λ r. ⌜ Shows (getD (printed 3 o (now (list .entry))) i []) r ⌝ }
+{
+    let answer = o.answer;
+    let n = answer.number();
+    if n > 1 {
+        if i == 0 {
+            return text::refused(n);
+        }
+        return text::empty();
+    }
+    if i == 0 {
+        return text::first(o.w, o.h, o.count);
+    }
+    let corners = stored(o.count, list.len());
+    if i <= corners {
+        let at = (i - 1) * STRIDE;
+        return text::corner(list[at], list[at + 1], list[at + 2]);
+    }
+    if i > corners + 1 {
+        return text::empty();
+    }
+    if n == 1 {
+        return text::full();
+    }
+    text::empty()
 }
