@@ -5,3 +5,5 @@ pub mod Printed
 pub mod Lines
 pub mod Appended
 pub mod Numerals
+pub mod Worked
+pub mod RoundTrip
