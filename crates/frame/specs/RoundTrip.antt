@@ -1,16 +1,20 @@
--- No good file is refused: the bytes that document 01 prescribes for a header and pixels are taken, and mean that header and those pixels. Assumes nothing.
+-- No good file is refused: the bytes that document 01 prescribes for a header and pixels are taken, and mean that header and those pixels. And no
+-- other file is taken: every taken file is the one for its fields and pixels. Assumes nothing.
 use mathlib.Core.Path.{_≡_, refl, sym, ap, _∙_}
 use mathlib.Core.Bool.{Bool, true, false, not}
 use mathlib.Core.List.{List, [], _∷_, _++_}
-use Prim.Native.Nat.{ℕ, _+_, _-_, _*_, _/_, _%_, _≤_, _<_}
+use Prim.Native.Nat.{ℕ, zero, suc, _+_, _-_, _*_, _/_, _%_, _≤_, _<_}
 use native.Mathlib.Omega.{arith}
-use borrow.Author.Tests.{le-ltb, eq-eqb}
+use borrow.Author.Tests.{le-ltb, eq-eqb, ltb-false, eqb-true, not-false}
 use lib.Dec.{eqb, lit<}
 use lib.Ieee.{binary32, ofBits}
-use lib.ListN.{length, drop}
+use lib.ListN.{length, drop, length-drop}
+use lib.Seq.{drop-cons}
+use Rattle.params.specs.declared.Answer.{Answer}
 use Rattle.frame.specs.declared.Header.{Header}
-use Rattle.frame.specs.declared.Reading.the-variants.{Frame}
-use Rattle.frame.specs.FrameFile.{fitOf, headerOf, readOf}
+use Rattle.frame.specs.declared.Reading.{Reading}
+use Rattle.frame.specs.declared.Reading.the-variants.{Frame, Refused}
+use Rattle.frame.specs.FrameFile.{byteAt, halfAt, wordAt, fitOf, headerOf, pick, readOf}
 
 -- what the fields hold, as numbers
 pub record Fields : Type 0 where
@@ -153,4 +157,71 @@ good-file-bytes f pixels r b h =
           ),
         ),
       ),
+    )
+
+-- ---- every taken file is such a file
+
+-- the numbers that stand in a file's fields
+abbrev pub fieldsOf : List ℕ → Fields
+fieldsOf file = record {
+  width = halfAt file 5;
+  height = halfAt file 7;
+  ray = byteAt file 9;
+  upsampling = byteAt file 10;
+  blur = byteAt file 11;
+  mode = byteAt file 12;
+  suppression = byteAt file 13;
+  least = halfAt file 14;
+  threshold = wordAt file 16;
+}
+
+-- the first k entries from `at` on, one by one, and the rest
+abbrev opened : ℕ → ℕ → List ℕ → List ℕ
+opened zero at file = drop at file
+opened (suc k) at file = byteAt file at ∷ opened k (suc at) file
+
+opened-is : (k at : ℕ) (file : List ℕ) → at + k ≤ length file → drop at file ≡ opened k at file
+opened-is zero at file h = refl
+opened-is (suc k) at file h = drop-cons file at 0 (omega arith) ∙ ap (λ (l : List ℕ). byteAt file at ∷ l) (opened-is k (suc at) file (omega arith))
+
+byte-below : (file : List ℕ) → Bytes file → (i : ℕ) → byteAt file i < 256
+byte-below [] b i = lit< tt
+byte-below (a ∷ l) b zero = b .0
+byte-below (a ∷ l) b (suc i) = byte-below l (b .1) i
+
+half-back : (a b : ℕ) → b < 256 → ((a * 256 + b) / 256 ≡ a) × ((a * 256 + b) % 256 ≡ b)
+half-back a b h = omega arith
+
+word-back : (a b c d : ℕ) → b < 256 → c < 256 → d < 256 → let n = (a * 256 + b) * 65536 + (c * 256 + d) in
+    (n / 16777216 ≡ a) × (n / 65536 % 256 ≡ b) × (n / 256 % 256 ≡ c) × (n % 256 ≡ d)
+word-back a b c d h i j = omega arith
+
+past : (t : Bool) (a : Answer) (b : Reading) (h : Header) → pick t (Refused a) b ≡ Frame h → (t ≡ false) × (b ≡ Frame h)
+past true a b h e = absurd (let z : _≡_ {A = ℕ} 0 1 = cc in omega arith)
+past false a b h e = (refl, e)
+
+pub taken-file-is : (limit : ℕ) (file : List ℕ) (h : Header) → Bytes file → readOf limit file ≡ Frame h
+    → (file ≡ fileOf (fieldsOf file) (drop 20 file)) × (byteAt file 12 ≤ 1) × (length file ≤ limit) × (h ≡ headerWith (fieldsOf file))
+unfolding readOf headerOf
+taken-file-is limit file h b e =
+    let a = past _ _ _ h e in
+    let c = past _ _ _ h (a .1) in
+    let d = past _ _ _ h (c .1) in
+    let f = past _ _ _ h (d .1) in
+    let g = past _ _ _ h (f .1) in
+    let long : 20 ≤ length file = ltb-false _ _ (c .0) in
+    let one : byteAt file 0 ≡ 1 = eqb-true _ _ (not-false _ (d .0)) in
+    let stated : wordAt file 1 ≡ length file - 5 = eqb-true _ _ (not-false _ (f .0)) in
+    let rest : 15 + length (drop 20 file) ≡ wordAt file 1 = omega (arith, length-drop 20 file) in
+    let p = byte-below file b in
+    let s = word-back (byteAt file 1) (byteAt file 2) (byteAt file 3) (byteAt file 4) (p 2) (p 3) (p 4) in
+    let w = half-back (byteAt file 5) (byteAt file 6) (p 6) in
+    let v = half-back (byteAt file 7) (byteAt file 8) (p 8) in
+    let l = half-back (byteAt file 14) (byteAt file 15) (p 15) in
+    let t = word-back (byteAt file 16) (byteAt file 17) (byteAt file 18) (byteAt file 19) (p 17) (p 18) (p 19) in (
+      opened-is 20 0 file long
+          ∙ rw (rest, s .0, s .1, s .2, s .3, w .0, w .1, v .0, v .1, l .0, l .1, t .0, t .1, t .2, t .3, one),
+      ltb-false _ _ (g .0),
+      ltb-false _ _ (a .0),
+      cc (g .1),
     )
