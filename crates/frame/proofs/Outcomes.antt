@@ -3,16 +3,12 @@ use mathlib.Core.Path.{_≡_, refl, sym, ap, _∙_}
 use mathlib.Core.Bool.{Bool, true, false, not}
 use Prim.Native.Nat.{ℕ, _+_, _≤_, _<_}
 use native.Mathlib.Omega.{arith}
-use borrow.Author.Tests.{le-leb, lt-leb}
-use lib.Dec.{leb}
-use Rattle.params.specs.declared.PeakFitMode.{PeakFitMode}
+use borrow.Author.Tests.{le-leb, lt-leb, eq-eqb, ne-eqb}
+use lib.Dec.{leb, eqb}
 use Rattle.frame.specs.declared.fields.Field.{Field}
-use Rattle.frame.specs.declared.fields.FitField.{FitField}
 use Rattle.frame.specs.declared.fields.Field.the-variants as number
-use Rattle.frame.specs.declared.fields.FitField.the-variants as fit
-use Rattle.frame.specs.Fields.{held, heldFit}
+use Rattle.frame.specs.Fields.{held}
 
--- ---- a number's outcome
 module _ (t : Bool) (v : ℕ) where
   pub passes : {n : ℕ} → n ≡ v → t ≡ true → number.Value n ≡ held t v
   unfolding held
@@ -50,29 +46,10 @@ present k n v is h e =
     let z : _≡_ {A = ℕ} 0 1 = cc in
     omega arith
 
--- ---- the mode's outcome
-module _ (t : Bool) (q : PeakFitMode) where
-  pub fit-passes : {p : PeakFitMode} → p ≡ q → t ≡ true → fit.Value p ≡ heldFit t q
-  unfolding heldFit
-  fit-passes e h = rw (e, h)
+-- a field that must have the value w: it has another, or it has that
+module _ (t : Bool) (v w : ℕ) {f : Field} {n : ℕ} (is : f ≡ held t v) (e : f ≡ number.Value n) where
+  pub other : (n ≡ w → ⊥) → number.Refused ≡ held (eqb v w) v
+  other h = fails (eqb v w) v (ne-eqb v w (λ z. h (value-is t v is e ∙ z)))
 
-  pub fit-fails : t ≡ false → fit.Refused ≡ heldFit t q
-  unfolding heldFit
-  fit-fails h = rw h
-
-fit-value : (t : Bool) (q : PeakFitMode) {p : PeakFitMode} → fit.Value p ≡ heldFit t q → (t ≡ true) × (p ≡ q)
-unfolding heldFit
-fit-value true q e = (refl, cc)
-fit-value false q e = absurd (let z : _≡_ {A = ℕ} 0 1 = cc in omega arith)
-
-fit-none : (t : Bool) (q : PeakFitMode) → fit.Refused ≡ heldFit t q → t ≡ false
-unfolding heldFit
-fit-none true q e = absurd (let z : _≡_ {A = ℕ} 0 1 = cc in omega arith)
-fit-none false q e = refl
-
-module _ (t : Bool) (q : PeakFitMode) {f : FitField} (is : f ≡ heldFit t q) where
-  pub fit-only : {p : PeakFitMode} → f ≡ fit.Value p → (t ≡ true) × (p ≡ q)
-  fit-only e = fit-value t q (sym e ∙ is)
-
-  pub fit-refused : f ≡ fit.Refused → t ≡ false
-  fit-refused e = fit-none t q (sym e ∙ is)
+  pub same : n ≡ w → number.Value n ≡ held (eqb v w) v
+  same h = passes (eqb v w) v (value-is t v is e) (eq-eqb v w (sym (value-is t v is e) ∙ h))

@@ -1,6 +1,6 @@
 -- How a line is put together: text after text is appended to it. Assumes nothing.
 use mathlib.Core.Path.{_≡_, refl, sym, ap, _∙_}
-use mathlib.Core.List.{List, [], _∷_, _++_}
+use mathlib.Core.List.{List, [], _∷_, _++_, append-assoc}
 use Prim.Native.Nat.{ℕ, zero, suc, _+_, _-_, _≤_, _<_}
 use native.Mathlib.Nat.{add-assoc, add-suc, add-zero, zero-add, suc-sub-suc, sub-zero, zero-sub}
 use native.Mathlib.Numerals.{add-one}
@@ -8,6 +8,7 @@ use native.Mathlib.Omega.{arith}
 use lib.ListN.{length, getD, take, replicate, drop, length-append, length-replicate}
 use lib.Seq.{sets, sets-eq, take-suc, take-all, length-take-le}
 use Rattle.frame.specs.declared.Line.{Line}
+use Rattle.frame.specs.Printed.{row}
 use Rattle.frame.specs.Lines.{lineOf, Shows}
 
 unfoldable pub appended : Line → List ℕ → Line
@@ -67,6 +68,12 @@ pub shown : {k : ℕ} {text : List ℕ} {l r : Line} → l ≡ blank → Grown k
 shown {text = text} e g h =
     let f : length text ≤ 64 = omega (arith, g .most) in
     record { is = g .is ∙ ap (λ (l : Line). appended l text) e ∙ shown-at text f; fits = f }
+
+-- three fields make a line
+pub three-shown : {i j k : ℕ} {l m n r : Line} (a b c : List ℕ) → l ≡ blank → Grown i l (a ++ (32 ∷ [])) m → Grown j m (b ++ (32 ∷ [])) n → Grown k n (c ++ (10 ∷ [])) r
+    → i + j + k ≤ 64 → Shows (row (a ∷ b ∷ c ∷ [])) r
+unfolding row
+three-shown a b c e f g h = shown e (simp append-assoc at (grown-more (grown-more f g) h))
 
 -- ---- a text that is copied byte by byte
 

@@ -1,22 +1,16 @@
-// The fields of a frame file, each with an outcome of its own: its value, or that the file does not have it.
+// The fields of a frame file, each with an outcome of its own: its value, or that it is missing or not to be taken.
 use params::PeakFitMode;
 ghost use mathlib.Core.Path.{_≡_};
 ghost use Prim.Native.Nat.{_+_, _-_, _≤_, _<_};
 ghost use lib.Dec.{leb, eqb};
 ghost use lib.Ieee.{binary32, ofBits};
 ghost use lib.ListN.{length};
-ghost use Rattle.frame.specs.FrameFile.{byteAt, halfAt, wordAt, modeOf};
-ghost use Rattle.frame.specs.Fields.{held, heldFit};
+ghost use Rattle.frame.specs.FrameFile.{byteAt, halfAt, wordAt, fitOf};
+ghost use Rattle.frame.specs.Fields.{held};
 
-// A number's outcome.
+// A field's outcome.
 pub enum Field {
     Value(u32),
-    Refused,
-}
-
-// The mode's outcome.
-pub enum FitField {
-    Value(PeakFitMode),
     Refused,
 }
 
@@ -90,20 +84,27 @@ pub fn stated_length(file: &[u8]) -> Field
 }
 
 // Byte 12, which must be 0 or 1.
-pub fn mode(file: &[u8]) -> FitField
+pub fn mode(file: &[u8]) -> Field
     requires { ⌜ 20 ≤ length (now file) ⌝ }
-    ensures { λ r. ⌜ r ≡ heldFit (leb (byteAt (now (file .entry)) 12) 1) (modeOf (now (file .entry))) ⌝ }
+    ensures { λ r. ⌜ r ≡ held (leb (byteAt (now (file .entry)) 12) 1) (byteAt (now (file .entry)) 12) ⌝ }
 {
     let Field::Value(m) = byte(file, 12) else {
-        return FitField::Refused;
+        return Field::Refused;
     };
     if m > 1 {
-        return FitField::Refused;
+        return Field::Refused;
     }
+    Field::Value(m)
+}
+
+// The mode of that number: 0 parabolic, 1 Gaussian.
+pub fn fit(m: u32) -> PeakFitMode
+    ensures { λ r. ⌜ r ≡ fitOf (eqb m 0) ⌝ }
+{
     if m == 0 {
-        return FitField::Value(PeakFitMode::Parabolic);
+        return PeakFitMode::Parabolic;
     }
-    FitField::Value(PeakFitMode::Gaussian)
+    PeakFitMode::Gaussian
 }
 
 // The f32 of a bit pattern. A pattern of a NaN may not be cast: there a NaN is made.

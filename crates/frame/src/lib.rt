@@ -1,6 +1,5 @@
 // The frame file: which bytes are taken, and what they mean. The printed list, line by line.
 use fields::Field;
-use fields::FitField;
 use params::Answer;
 use params::Outcome;
 use params::RadonDetectorParams;
@@ -71,7 +70,7 @@ fn read_header(file: &[u8]) -> Reading
     let Field::Value(response_blur_radius) = fields::byte(file, 11) else {
         return Reading::Refused(Answer::FileTooShort);
     };
-    let FitField::Value(peak_fit) = fields::mode(file) else {
+    let Field::Value(mode) = fields::mode(file) else {
         return Reading::Refused(Answer::Mode);
     };
     let Field::Value(nms_radius) = fields::byte(file, 13) else {
@@ -87,7 +86,7 @@ fn read_header(file: &[u8]) -> Reading
         ray_radius,
         image_upsample,
         response_blur_radius,
-        peak_fit,
+        peak_fit: fields::fit(mode),
         threshold_rel: fields::float(bits),
         nms_radius,
         min_cluster_size,

@@ -6,29 +6,26 @@ use borrow.Author.Tests.{lt-ltb, le-ltb, leb-true, leb-false}
 use lib.Dec.{lit≤}
 use lib.ListN.{length}
 use Rattle.frame.specs.FrameFile.{headerOf}
-use Rattle.frame.proofs.Outcomes.{present, value-is, fit-only, fit-refused}
+use Rattle.frame.proofs.Outcomes.{present, value-is, value-passes, refused-fails}
 use Rattle.frame.proofs.read_header.Statement.{statement}
 use Rattle.frame.proofs.read_header.Tie as tie
-
-returns-6 : tie.Need-returns-6
-returns-6 c = rw (lt-ltb _ _ (leb-false _ _ (fit-refused _ _ (c .before .before .mode .ensures) (c .enum-told6 .given .1))))
 
 returns-10 : tie.Need-returns-10
 unfolding headerOf
 returns-10 c =
-    let fitted = fit-only _ _ (c .before .before .before .before .before .before .before .before .before .before .before .before .before .before .before .before .mode .ensures) (c .before .before .before .before .before .before .before .before .before .before .before .before .before .before .peak-fit .given .1) in
     rw (
-      le-ltb _ _ (leb-true _ _ (fitted .0)),
+      le-ltb _ _ (leb-true _ _ (value-passes _ _ (c .before .before .before .before .before .before .before .before .before .before .before .before .before .before .before .before .before .mode .ensures) (c .before .before .before .before .before .before .before .before .before .before .before .before .before .before .before .mode2 .given .1))),
       c .float .ensures,
-      value-is _ _ (c .before .before .before .before .before .before .before .before .before .before .before .before .before .before .before .before .before .before .before .before .before .before .before .before .before .before .before .before .before .before .before .before .before .before .before .before .half .ensures) (c .before .before .before .before .before .before .before .before .before .before .before .before .before .before .before .before .before .before .before .before .before .before .before .before .before .before .before .before .before .before .before .before .before .before .width .given .1),
-      value-is _ _ (c .before .before .before .before .before .before .before .before .before .before .before .before .before .before .before .before .before .before .before .before .before .before .before .before .before .before .before .before .before .before .before .before .half2 .ensures) (c .before .before .before .before .before .before .before .before .before .before .before .before .before .before .before .before .before .before .before .before .before .before .before .before .before .before .before .before .before .before .height .given .1),
-      value-is _ _ (c .before .before .before .before .before .before .before .before .before .before .before .before .before .before .before .before .before .before .before .before .before .before .before .before .before .before .before .before .byte .ensures) (c .before .before .before .before .before .before .before .before .before .before .before .before .before .before .before .before .before .before .before .before .before .before .before .before .before .before .ray-radius .given .1),
-      value-is _ _ (c .before .before .before .before .before .before .before .before .before .before .before .before .before .before .before .before .before .before .before .before .before .before .before .before .byte2 .ensures) (c .before .before .before .before .before .before .before .before .before .before .before .before .before .before .before .before .before .before .before .before .before .before .image-upsample .given .1),
-      value-is _ _ (c .before .before .before .before .before .before .before .before .before .before .before .before .before .before .before .before .before .before .before .before .byte3 .ensures) (c .before .before .before .before .before .before .before .before .before .before .before .before .before .before .before .before .before .before .response-blur-radius .given .1),
-      fitted .1,
-      value-is _ _ (c .before .before .before .before .before .before .before .before .before .before .before .before .byte4 .ensures) (c .before .before .before .before .before .before .before .before .before .before .nms-radius .given .1),
-      value-is _ _ (c .before .before .before .before .before .before .before .before .half3 .ensures) (c .before .before .before .before .before .before .min-cluster-size .given .1),
-      value-is _ _ (c .before .before .before .before .word .ensures) (c .before .before .bits .given .1),
+      c .before .fit .ensures,
+      value-is _ _ (c .before .before .before .before .before .before .before .before .before .before .before .before .before .before .before .before .before .before .before .before .before .before .before .before .before .before .before .before .before .before .before .before .before .before .before .before .before .half .ensures) (c .before .before .before .before .before .before .before .before .before .before .before .before .before .before .before .before .before .before .before .before .before .before .before .before .before .before .before .before .before .before .before .before .before .before .before .width .given .1),
+      value-is _ _ (c .before .before .before .before .before .before .before .before .before .before .before .before .before .before .before .before .before .before .before .before .before .before .before .before .before .before .before .before .before .before .before .before .before .half2 .ensures) (c .before .before .before .before .before .before .before .before .before .before .before .before .before .before .before .before .before .before .before .before .before .before .before .before .before .before .before .before .before .before .before .height .given .1),
+      value-is _ _ (c .before .before .before .before .before .before .before .before .before .before .before .before .before .before .before .before .before .before .before .before .before .before .before .before .before .before .before .before .before .byte .ensures) (c .before .before .before .before .before .before .before .before .before .before .before .before .before .before .before .before .before .before .before .before .before .before .before .before .before .before .before .ray-radius .given .1),
+      value-is _ _ (c .before .before .before .before .before .before .before .before .before .before .before .before .before .before .before .before .before .before .before .before .before .before .before .before .before .byte2 .ensures) (c .before .before .before .before .before .before .before .before .before .before .before .before .before .before .before .before .before .before .before .before .before .before .before .image-upsample .given .1),
+      value-is _ _ (c .before .before .before .before .before .before .before .before .before .before .before .before .before .before .before .before .before .before .before .before .before .byte3 .ensures) (c .before .before .before .before .before .before .before .before .before .before .before .before .before .before .before .before .before .before .before .response-blur-radius .given .1),
+      value-is _ _ (c .before .before .before .before .before .before .before .before .before .before .before .before .before .before .before .before .before .mode .ensures) (c .before .before .before .before .before .before .before .before .before .before .before .before .before .before .before .mode2 .given .1),
+      value-is _ _ (c .before .before .before .before .before .before .before .before .before .before .before .before .before .byte4 .ensures) (c .before .before .before .before .before .before .before .before .before .before .before .nms-radius .given .1),
+      value-is _ _ (c .before .before .before .before .before .before .before .before .before .half3 .ensures) (c .before .before .before .before .before .before .before .min-cluster-size .given .1),
+      value-is _ _ (c .before .before .before .before .before .word .ensures) (c .before .before .before .bits .given .1),
     )
 
 pub read-header-spec : {M : Type 1} → statement M
@@ -58,7 +55,7 @@ read-header-spec =
     (λ c κs. search needs)
     (λ c. search needs)
     (λ c. search needs)
-    returns-6
+    (λ c. rw (lt-ltb _ _ (leb-false _ _ (refused-fails _ _ (c .before .before .mode .ensures) (c .enum-told6 .given .1)))))
     (λ c κs. search needs)
     (λ c. search needs)
     (λ c. search needs)
@@ -72,6 +69,7 @@ read-header-spec =
     (λ c. search needs)
     (λ c. absurd (present 20 (length (c .before .before .before .before .before .before .before .before .before .before .before .before .before .before .before .before .before .before .before .before .before .before .before .before .before .before .before .before .before .before .before .before .before .before .before .before .args .file .now)) _ (c .before .before .word .ensures) (le-trans (lit≤ tt) (c .before .before .before .before .before .before .before .before .before .before .before .before .before .before .before .before .before .before .before .before .before .before .before .before .before .before .before .before .before .before .before .before .before .before .before .before .pre)) (c .enum-told9 .given .1)))
     (λ c κs. search needs)
-    (λ c. omega (arith, c .before .before .before .before .before .before .before .before .before .before .before .before .before .before .before .before .before .before .before .before .before .before .before .before .before .before .before .before .before .before .before .before .before .known-told .given))
-    (λ c. omega (arith, c .before .before .before .before .before .before .before .before .before .before .before .before .before .before .before .before .before .before .before .before .before .before .before .before .before .before .before .before .before .known-told2 .given))
+    (λ c κs. search needs)
+    (λ c. omega (arith, c .before .before .before .before .before .before .before .before .before .before .before .before .before .before .before .before .before .before .before .before .before .before .before .before .before .before .before .before .before .before .before .before .before .before .known-told .given))
+    (λ c. omega (arith, c .before .before .before .before .before .before .before .before .before .before .before .before .before .before .before .before .before .before .before .before .before .before .before .before .before .before .before .before .before .before .known-told2 .given))
     returns-10)

@@ -1,17 +1,10 @@
 -- `frame::fields::version` meets its contract. Assumes nothing.
-use mathlib.Core.Path.{sym, _∙_}
 use native.Mathlib.Omega.{arith}
 use borrow.Author.Needs.{needs}
-use borrow.Author.Tests.{eq-eqb, ne-eqb}
 use lib.ListN.{length}
-use Rattle.frame.proofs.Outcomes.{present, value-is, passes, fails}
+use Rattle.frame.proofs.Outcomes.{present, other, same}
 use Rattle.frame.proofs.fields.version.Statement.{statement}
 use Rattle.frame.proofs.fields.version.Tie as tie
-
-returns-3 : tie.Need-returns-3
-returns-3 c =
-    let e = value-is _ _ (c .before .before .before .before .byte .ensures) (c .before .before .v .given .1) in
-    passes _ _ e (eq-eqb _ _ (sym e ∙ c .if1 .left))
 
 pub version-spec : {M : Type 1} → statement M
 version-spec =
@@ -21,5 +14,5 @@ version-spec =
     (λ c. search needs)
     (λ c. search needs)
     (λ c. absurd (present 1 (length (c .before .before .before .before .args .file .now)) _ (c .before .before .byte .ensures) (omega arith) (c .enum-told .given .1)))
-    (λ c. fails _ _ (ne-eqb _ _ (λ e. c .if1 .taken (value-is _ _ (c .before .before .before .before .byte .ensures) (c .before .before .v .given .1) ∙ e))))
-    returns-3)
+    (λ c. other _ _ _ (c .before .before .before .before .byte .ensures) (c .before .before .v .given .1) (c .if1 .taken))
+    (λ c. same _ _ _ (c .before .before .before .before .byte .ensures) (c .before .before .v .given .1) (c .if1 .left)))

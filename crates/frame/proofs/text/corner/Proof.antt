@@ -1,17 +1,15 @@
 -- `frame::text::corner` meets its contract: three fields, one after the other. Assumes nothing.
 use native.Mathlib.Omega.{arith}
-use mathlib.Core.List.{append-assoc}
 use borrow.Author.Needs.{needs}
 use lib.Dec.{lit≤}
-use Rattle.frame.specs.Printed.{cornerLine, row}
-use Rattle.frame.specs.Appended.{empty-len, grown-len, grown-more, shown}
+use Rattle.frame.specs.Printed.{cornerLine}
+use Rattle.frame.specs.Appended.{empty-len, grown-len, three-shown}
 use Rattle.frame.proofs.text.corner.Statement.{statement}
 use Rattle.frame.proofs.text.corner.Tie as tie
 
 returns : tie.Need-returns
-unfolding cornerLine row
-returns c =
-    shown (c .before .before .before .empty .ensures) (simp append-assoc at (grown-more (grown-more (c .before .before .word .ensures) (c .before .word2 .ensures)) (c .word3 .ensures))) (lit≤ tt)
+unfolding cornerLine
+returns c = three-shown _ _ _ (c .before .before .before .empty .ensures) (c .before .before .word .ensures) (c .before .word2 .ensures) (c .word3 .ensures) (lit≤ tt)
 
 pub corner-spec : {M : Type 1} → statement M
 corner-spec =

@@ -1,17 +1,15 @@
 -- `frame::text::first` meets its contract: three fields, one after the other. Assumes nothing.
 use native.Mathlib.Omega.{arith}
-use mathlib.Core.List.{append-assoc}
 use borrow.Author.Needs.{needs}
 use lib.Dec.{lit≤}
-use Rattle.frame.specs.Printed.{firstLine, row}
-use Rattle.frame.specs.Appended.{empty-len, grown-len, grown-more, shown}
+use Rattle.frame.specs.Printed.{firstLine}
+use Rattle.frame.specs.Appended.{empty-len, grown-len, three-shown}
 use Rattle.frame.proofs.text.first.Statement.{statement}
 use Rattle.frame.proofs.text.first.Tie as tie
 
 returns : tie.Need-returns
-unfolding firstLine row
-returns c =
-    shown (c .before .before .before .empty .ensures) (simp append-assoc at (grown-more (grown-more (c .before .before .decimal .ensures) (c .before .decimal2 .ensures)) (c .decimal3 .ensures))) (lit≤ tt)
+unfolding firstLine
+returns c = three-shown _ _ _ (c .before .before .before .empty .ensures) (c .before .before .decimal .ensures) (c .before .decimal2 .ensures) (c .decimal3 .ensures) (lit≤ tt)
 
 pub first-spec : {M : Type 1} → statement M
 first-spec =
