@@ -67,7 +67,8 @@ shown-at text h = λ j. record {
 pub shown : {k : ℕ} {text : List ℕ} {l r : Line} → l ≡ blank → Grown k l text r → k ≤ 64 → Shows text r
 shown {text = text} e g h =
     let f : length text ≤ 64 = omega (arith, g .most) in
-    record { is = g .is ∙ ap (λ (l : Line). appended l text) e ∙ shown-at text f; fits = f }
+    let i = g .is ∙ ap (λ (l : Line). appended l text) e ∙ shown-at text f in
+    record { is = i; fits = omega (arith, ap (λ (x : Line). x .len) i) }
 
 -- three fields make a line
 pub three-shown : {i j k : ℕ} {l m n r : Line} (a b c : List ℕ) → l ≡ blank → Grown i l (a ++ (32 ∷ [])) m → Grown j m (b ++ (32 ∷ [])) n → Grown k n (c ++ (10 ∷ [])) r

@@ -12,4 +12,4 @@ lineOf text = record { bytes = text ++ replicate (64 - length text) 0; len = len
 
 pub record Shows (text : List ℕ) (line : Line) : Type 0 where
   pub is : line ≡ lineOf text
-  pub fits : length text ≤ 64
+  pub fits : line .len ≤ 64
