@@ -1,0 +1,3 @@
+-- What the walks over a view share.
+pub mod Walk
+pub mod Viewed
