@@ -34,7 +34,7 @@ use denote.Signature.{plain, namedLft}
 use denote.Struct.Declared.{Declared}
 use denote.Struct.Laws as LL
 use denote.Struct.At.{FieldAt, getAt, val-get}
-use denote.Struct.Rest.{all-own, ownAt, rest, own-open, own-out}
+use denote.Struct.Rest.{all-own, ownAt, rest, own-open, own-shut, own-out}
 use denote.Struct.Values.{Values}
 use denote.Triple.Statement.{Triple}
 use denote.Triple.Clauses.{Ended, Clauses, closing}
@@ -72,6 +72,10 @@ mach d = vstruct (cells d)
 abbrev pub Own : Lft → RadonResponseView → Fml
 Own κ d = ViewAt (κ, tt) .own d (mach d ∷ [])
 
+-- and what its fields own together
+abbrev pub Fields : Lft → RadonResponseView → Fml
+Fields κ d = all-own (Kind κ .parts) (laws κ) (values κ d)
+
 -- ---- the MIR of a function that hands back the field k, of the type τ
 abbrev pub reader : Ty → ℕ → Fn
 reader τ k = record {
@@ -107,15 +111,23 @@ module _ {M : Type 1} (𝓤 : URA M) (H : Heap 𝓤) (A : Atoms 𝓤) (W : Given
     abbrev pub typed : Is (ViewAt (κ, tt)) d (mach d ∷ []) → Holds (hasTy (T′.mir (named 0)) (mach d)) × WT (mach d)
     typed p = LL.lawful (Kind κ) (laws κ) 𝓤 H A W .typed d (mach d ∷ []) p .0
 
+    -- what a view owns is what its fields own, and can be had twice
+    pub opened : ent 𝓤 (sem 𝓤 H A (Own κ d)) (sep 𝓤 (sem 𝓤 H A (Own κ d)) (sem 𝓤 H A (Fields κ d)))
+    opened =
+        qed W (‵ (Own κ d) ∷ []) ∵ use1 W (‵ (Own κ d) ⊛ ‵ (Own κ d)) (LL.copy (Kind κ) (T′.the-copy (namedLft 1 0 tt (κ, tt))) 𝓤 H A W .twice d (mach d ∷ [])) $ split ! $ frame ! $
+        use1 W (knowing (mach d ∷ [] ≡ mach d ∷ []) (‵ (Fields κ d))) (own-open 𝓤 H A W (Kind κ) (laws κ) (values κ d) (mach d)) $ learn ! (λ _. done !)
+
+    pub made : ent 𝓤 (sem 𝓤 H A (Fields κ d)) (sep 𝓤 (sem 𝓤 H A (Own κ d)) (sem 𝓤 H A (Fields κ d)))
+    made = qed W (‵ (Fields κ d) ∷ []) ∵ use1 W (‵ (Own κ d)) (own-shut 𝓤 H A W (Kind κ) (laws κ) (values κ d)) $ by ! opened
+
     -- one copy is kept whole, and of the other what the field k owns is taken
     pub field-out : (k : ℕ) → ent 𝓤 (sem 𝓤 H A (Own κ d)) (sep 𝓤 (sem 𝓤 H A (Own κ d)) (sem 𝓤 H A (FieldOf k (κ, tt) .own (fieldIn k κ d) (getV (cells d) k ∷ []))))
     field-out k =
         subst (λ (v : Val). ent 𝓤 (sem 𝓤 H A (Own κ d)) (sep 𝓤 (sem 𝓤 H A (Own κ d)) (sem 𝓤 H A (FieldOf k (κ, tt) .own (fieldIn k κ d) (v ∷ [])))))
         (sym (val-get (Kind κ .parts) (laws κ) k (values κ d)))
-        (qed W (‵ (Own κ d) ∷ []) ∵ use1 W (‵ (Own κ d) ⊛ ‵ (Own κ d)) (LL.copy (Kind κ) (T′.the-copy (namedLft 1 0 tt (κ, tt))) 𝓤 H A W .twice d (mach d ∷ [])) $ split ! $ frame ! $
-        use1 W (knowing (mach d ∷ [] ≡ mach d ∷ []) (‵ (all-own (Kind κ .parts) (laws κ) (values κ d)))) (own-open 𝓤 H A W (Kind κ) (laws κ) (values κ d) (mach d)) $ learn ! (λ _.
+        (qed W (‵ (Own κ d) ∷ []) ∵ use1 W (‵ (Own κ d) ⊛ ‵ (Fields κ d)) opened $ split ! $ frame ! $
         use1 W (‵ (ownAt (Kind κ .parts) (laws κ) k (getAt (Kind κ .parts) k (values κ d))) ⊛ ‵ (rest (Kind κ .parts) (laws κ) k (values κ d))) (own-out 𝓤 H A W (Kind κ .parts) (laws κ) k (values κ d)) $ split ! $
-        move ! (1 ∷ []) $ drop ! $ done !))
+        move ! (1 ∷ []) $ drop ! $ done !)
 
     module _ (q : Share) where
       abbrev Post : ℕ → Val → SProp 𝓤
