@@ -141,6 +141,19 @@ module _ {M : Type 1} (𝓤 : URA M) (H : Heap 𝓤) (A : Atoms 𝓤) (W : Given
         use1 W (‵ (ownAt (Kind κ .parts) (laws κ) k (getAt (Kind κ .parts) k (values κ d))) ⊛ ‵ (rest (Kind κ .parts) (laws κ) k (values κ d))) (own-out 𝓤 H A W (Kind κ .parts) (laws κ) k (values κ d)) $ split ! $
         move ! (1 ∷ []) $ drop ! $ done !)
 
+    -- ---- what the fields own, with more parameters behind them
+    pub behind : (extra : Fml) → ent 𝓤 (sep 𝓤 (sem 𝓤 H A (Fields κ d)) (sem 𝓤 H A extra)) (sem 𝓤 H A (Handed κ d extra))
+    behind extra =
+        qed W (‵ (Fields κ d) ∷ ‵ extra ∷ []) ∵ fsplit ! $ move ! (1 ∷ []) $ fsplit ! $ move ! (1 ∷ []) $ fsplit ! $ move ! (1 ∷ []) $ fsplit ! $ move ! (1 ∷ []) $ drop ! $
+        -- [h; w; the image; the response; extra]
+        move ! (0 ∷ 4 ∷ []) $ fjoin ! $ move ! (1 ∷ 0 ∷ []) $ fjoin ! $ move ! (1 ∷ 0 ∷ []) $ fjoin ! $ move ! (1 ∷ 0 ∷ []) $ fjoin ! $ done !
+
+    pub before : (extra : Fml) → ent 𝓤 (sem 𝓤 H A (Handed κ d extra)) (sep 𝓤 (sem 𝓤 H A (Fields κ d)) (sem 𝓤 H A extra))
+    before extra =
+        qed W (‵ (Handed κ d extra) ∷ []) ∵ fsplit ! $ move ! (1 ∷ []) $ fsplit ! $ move ! (1 ∷ []) $ fsplit ! $ move ! (1 ∷ []) $ fsplit ! $
+        -- [h; extra; w; the image; the response]
+        nothing ! $ move ! (1 ∷ 0 ∷ []) $ fjoin ! $ move ! (2 ∷ 0 ∷ []) $ fjoin ! $ move ! (2 ∷ 0 ∷ []) $ fjoin ! $ move ! (2 ∷ 0 ∷ []) $ fjoin ! $ frame ! $ done !
+
     -- ---- the view is taken apart for a call of a function that takes the response, the image, the width and the height, and then what owns `extra`.
     -- Such a function has a lifetime for each slice, and gets half of the token for each; it requires nothing else
     pub handed : (q : Share) (extra : Fml)
@@ -150,10 +163,7 @@ module _ {M : Type 1} (𝓤 : URA M) (H : Heap 𝓤) (A : Atoms 𝓤) (W : Given
         qed W ((‵ (flft κ q) ⊛ ‵ ftrue) ∷ ‵ (fsep (Own κ d) extra) ∷ []) ∵
         split ! $ use1 W (‵ (flft κ (PosShare·left q)) ⊛ ‵ (flft κ (PosShare·right q))) (W .lfts .lft-split κ q) $ split ! $ move ! (1 ∷ 2 ∷ []) $ join ! $ move ! (1 ∷ 0 ∷ []) $ join ! $
         -- [the halves; what the view owns, and extra]
-        move ! (1 ∷ []) $ fsplit ! $ use1 W (‵ (Own κ d) ⊛ ‵ (Fields κ d)) opened $ split ! $ move ! (1 ∷ []) $
-        -- [what the fields own; what the view owns; extra; the halves]: the fields apart, and together again with extra at the end
-        fsplit ! $ move ! (1 ∷ []) $ fsplit ! $ move ! (1 ∷ []) $ fsplit ! $ move ! (1 ∷ []) $ fsplit ! $ move ! (1 ∷ []) $ drop ! $
-        move ! (0 ∷ 5 ∷ []) $ fjoin ! $ move ! (1 ∷ 0 ∷ []) $ fjoin ! $ move ! (1 ∷ 0 ∷ []) $ fjoin ! $ move ! (1 ∷ 0 ∷ []) $ fjoin ! $
+        move ! (1 ∷ []) $ fsplit ! $ use1 W (‵ (Own κ d) ⊛ ‵ (Fields κ d)) opened $ split ! $ move ! (1 ∷ 2 ∷ []) $ use2 W (‵ (Handed κ d extra)) (behind extra) $
         move ! (2 ∷ 0 ∷ []) $ join ! $ nothing ! $ move ! (1 ∷ 0 ∷ []) $ join ! $ frame ! $ done !
 
     -- the token comes back

@@ -75,12 +75,7 @@ pub fn row_at<'a, 'b>(
 // Each function over the view takes it apart; the work is done above, over slices and numbers.
 impl<'a> RadonResponseView<'a> {
     // The view of what is lent.
-    pub fn new(
-        response: &'a [f32],
-        image: &'a [u8],
-        w: usize,
-        h: usize,
-    ) -> RadonResponseView<'a>
+    pub fn new(response: &'a [f32], image: &'a [u8], w: usize, h: usize) -> RadonResponseView<'a>
         ensures { λ r. ⌜ r ≡ viewOf (response .entry) (image .entry) w h ⌝ }
     {
         RadonResponseView {

@@ -81,9 +81,16 @@ module _ {M : Type 1} (𝓤 : URA M) (H : Heap 𝓤) (A : Atoms 𝓤) (W : Given
   args = (d .«data», (d .image, (d .w, (d .h, (x, (y, tt))))))
 
   abbrev to : Called 𝓤 H A mem run .Ghost
-  to =
-      (((κ, (κ, tt)), (PosShare·left q, (PosShare·right q, tt)), tt, args,
-      (slice-vals (d .«data»), (slice-vals (d .image), (vint w64 (d .w) ∷ [], (vint w64 (d .h) ∷ [], (vint w64 x ∷ [], (vint w64 y ∷ [], tt))))))), tt)
+  to = (
+    (
+      (κ, (κ, tt)),
+      (PosShare·left q, (PosShare·right q, tt)),
+      tt,
+      args,
+      (slice-vals (d .«data»), (slice-vals (d .image), (vint w64 (d .w) ∷ [], (vint w64 (d .h) ∷ [], (vint w64 x ∷ [], (vint w64 y ∷ [], tt)))))),
+    ),
+    tt,
+  )
 
   abbrev found : Place
   found = placeAt (now (d .«data»)) (now (d .image)) (d .w) (d .h) x y

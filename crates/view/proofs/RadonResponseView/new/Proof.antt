@@ -41,9 +41,13 @@ use Rattle.view.proofs.RadonResponseView.new.Code as code
 
 -- every parameter is seen at exit as it was passed
 abbrev stayed : Stays (new.ended .signature .params) (new.ended .kept)
-stayed =
-    (stay-none-slice (0 ∷ []) tt (plain (λ _. f32)) yes, (stay-none-slice (0 ∷ []) tt (plain (λ _. u8)) yes,
-    (stay-none (λ _. usize) yes, (stay-none (λ _. usize) yes, tt))))
+stayed = (
+  stay-none-slice (0 ∷ []) tt (plain (λ _. f32)) yes,
+  (
+    stay-none-slice (0 ∷ []) tt (plain (λ _. u8)) yes,
+    (stay-none (λ _. usize) yes, (stay-none (λ _. usize) yes, tt)),
+  ),
+)
 
 module _ {M : Type 1} (𝓤 : URA M) (H : Heap 𝓤) (A : Atoms 𝓤) (W : Given 𝓤 H A) (mem : Memory → SProp 𝓤) (run : Routine → Fun 𝓤) (κ : Lft) (q : Share) (s : RefT (List Float)) (t : RefT (List ℕ)) (w h : ℕ) where
   abbrev d : RadonResponseView
@@ -90,9 +94,13 @@ new-spec 𝓤 H 𝓜 𝓖 𝓡 =
     let C = tables 𝓤 H 𝓜 𝓡 code.env .C in
     let Λ = tables 𝓤 H 𝓜 𝓡 code.env .Λ in
     let clauses = new.clauses 𝓤 H (𝓖 .A) (𝓜 .mem) (𝓡 .run) in
-    met 𝓤 H 𝓜 𝓖 𝓡 code.env new.ended stayed clauses name code.function (code.unfolded 𝓤 H 𝓜 𝓡)
-    (goes-none-slice 𝓤 H (𝓖 .A) W 1 (0 ∷ []) tt (plain (λ _. f32)) yes, (goes-none-slice 𝓤 H (𝓖 .A) W 1 (0 ∷ []) tt (plain (λ _. u8)) yes,
-    (goes-none 𝓤 H (𝓖 .A) W 1 (λ _. usize) yes (λ κs x f. refl), (goes-none 𝓤 H (𝓖 .A) W 1 (λ _. usize) yes (λ κs x f. refl), tt)))) (λ _.
+    met 𝓤 H 𝓜 𝓖 𝓡 code.env new.ended stayed clauses name code.function (code.unfolded 𝓤 H 𝓜 𝓡) (
+      goes-none-slice 𝓤 H (𝓖 .A) W 1 (0 ∷ []) tt (plain (λ _. f32)) yes,
+      (
+        goes-none-slice 𝓤 H (𝓖 .A) W 1 (0 ∷ []) tt (plain (λ _. u8)) yes,
+        (goes-none 𝓤 H (𝓖 .A) W 1 (λ _. usize) yes (λ κs x f. refl), (goes-none 𝓤 H (𝓖 .A) W 1 (λ _. usize) yes (λ κs x f. refl), tt)),
+      ),
+    ) (λ _.
     walked 𝓤 H (𝓖 .A) new.ended stayed clauses (WpFn 𝓤 H C Λ code.function) (λ κs. (slice-vals, (slice-vals, (uint-vals w64, (uint-vals w64, tt)))))
     (λ κs. (shr-slice-tells (named 0) (κs .0) f32, (shr-slice-tells (named 0) (κs .0) u8, (uint-tells w64, (uint-tells w64, tt))))) (λ κs qs bounds a g are.
     via 𝓤 _ (fst∗ 𝓤 _ (emp 𝓤))

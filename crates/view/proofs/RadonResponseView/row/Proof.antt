@@ -78,9 +78,16 @@ module _ {M : Type 1} (𝓤 : URA M) (H : Heap 𝓤) (A : Atoms 𝓤) (W : Given
   args = (d .«data», (d .image, (d .w, (d .h, (y, tt)))))
 
   abbrev to : Called 𝓤 H A mem run .Ghost
-  to =
-      (((κ, (κ, tt)), (PosShare·left q, (PosShare·right q, tt)), tt, args,
-      (slice-vals (d .«data»), (slice-vals (d .image), (vint w64 (d .w) ∷ [], (vint w64 (d .h) ∷ [], (vint w64 y ∷ [], tt)))))), tt)
+  to = (
+    (
+      (κ, (κ, tt)),
+      (PosShare·left q, (PosShare·right q, tt)),
+      tt,
+      args,
+      (slice-vals (d .«data»), (slice-vals (d .image), (vint w64 (d .w) ∷ [], (vint w64 (d .h) ∷ [], (vint w64 y ∷ [], tt))))),
+    ),
+    tt,
+  )
 
   abbrev IsRow : RefT (List Float) → Type 0
   IsRow r = Row (d .«data») (now (d .image)) (d .w) (d .h) y r
