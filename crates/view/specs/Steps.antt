@@ -1,19 +1,18 @@
 -- Steps of the view's proofs: W·H is compared with a length without being computed, and each way out of the code is a case of the rules.
 -- Assumes nothing.
-use mathlib.Core.Path.{_≡_, refl, sym, ap, _∙_}
+use mathlib.Core.Path.{_≡_, sym, _∙_}
 use mathlib.Core.Bool.{Bool, true, false, _&&_, and-comm, and-false, true≢false}
-use Prim.Native.Nat.{ℕ, zero, _+_, _-_, _*_, _/_, _≤_, _<_}
+use Prim.Native.Nat.{ℕ, _+_, _-_, _*_, _/_, _≤_, _<_}
 use native.Mathlib.Nat.{le-div-iff-mul-le, mul-comm, zero-mul}
 use native.Mathlib.Decide.{decLe}
 use native.Mathlib.Omega.{arith}
 use borrow.Author.Tests.{le-leb, lt-leb, lt-ltb, le-ltb}
 use mathlib.Core.List.{List, []}
-use lib.Dec.{leb, ltb}
+use lib.Dec.{leb}
 use lib.ListN.{length, getD, take, drop}
 use lib.Ieee.{Float, nan}
 use denote.Ref.{RefT, now, ptr}
 use Rattle.grid.specs.Plane.{row-in}
-use Rattle.view.specs.declared.Place.{Place}
 use Rattle.view.specs.declared.Place.the-variants.{Value, Outside}
 use Rattle.view.specs.View.{whole, rowInside, placeAt, rowAt, rowStart, entryPtr, Row}
 

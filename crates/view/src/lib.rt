@@ -142,3 +142,10 @@ pub fn read_place<'a>(
 {
     RadonResponseView::new(response, image, w, h).at(x, y)
 }
+
+// A row of a map that is viewed for this one reading.
+pub fn read_row<'a>(response: &'a [f32], image: &'a [u8], w: usize, h: usize, y: usize) -> &'a [f32]
+    ensures { λ r. ⌜ Row (response .entry) (now (image .entry)) w h y r ⌝ }
+{
+    RadonResponseView::new(response, image, w, h).row(y)
+}
