@@ -84,12 +84,15 @@ Own κ d = ViewAt (κ, tt) .own d (mach d ∷ [])
 abbrev pub Fields : Lft → RadonResponseView → Fml
 Fields κ d = all-own (Kind κ .parts) (laws κ) (values κ d)
 
--- the lifetime's token, and both halves of it, as two lifetimes' tokens
-abbrev pub Token : {M : Type 1} {𝓤 : URA M} → Lft → Share → Item 𝓤
-Token κ q = ‵ (flft κ q) ⊛ ‵ ftrue
+-- the lifetime's token, and both halves of it as two lifetimes' tokens, before others
+abbrev pub Whole : {M : Type 1} {𝓤 : URA M} → Lft → Share → Item 𝓤 → Item 𝓤
+Whole κ q i = ‵ (flft κ q) ⊛ i
 
-abbrev pub Halves : {M : Type 1} {𝓤 : URA M} → Lft → Share → Item 𝓤
-Halves κ q = ‵ (flft κ (PosShare·left q)) ⊛ ‵ (flft κ (PosShare·right q)) ⊛ ‵ ftrue
+abbrev pub Halves : {M : Type 1} {𝓤 : URA M} → Lft → Share → Item 𝓤 → Item 𝓤
+Halves κ q i = ‵ (flft κ (PosShare·left q)) ⊛ ‵ (flft κ (PosShare·right q)) ⊛ i
+
+abbrev pub Token : {M : Type 1} {𝓤 : URA M} → Lft → Share → Item 𝓤
+Token κ q = Whole κ q (‵ ftrue)
 
 -- what the fields own, and more parameters behind them
 abbrev pub Handed : Lft → RadonResponseView → Fml → Fml
@@ -147,17 +150,17 @@ module _ {M : Type 1} (𝓤 : URA M) (H : Heap 𝓤) (A : Atoms 𝓤) (W : Given
 
   -- ---- the view is taken apart for a call of a function that takes the response, the image, the width and the height, and then what owns `extra`.
   -- Such a function has a lifetime for each slice, and gets half of the token for each; it requires nothing else
-  pub handed : (q : Share) (extra : Fml)
-      → ent 𝓤 (sep 𝓤 (mean 𝓤 H A (Token κ q)) (sem 𝓤 H A (fsep (Own κ d) extra))) (sep 𝓤 (sep 𝓤 (mean 𝓤 H A (Halves κ q)) (sem 𝓤 H A (Handed κ d extra))) (emp 𝓤))
-  handed q extra =
-      qed W (Token κ q ∷ ‵ (fsep (Own κ d) extra) ∷ []) ∵
+  pub handed : (q : Share) (i : Item 𝓤) (extra : Fml)
+      → ent 𝓤 (sep 𝓤 (mean 𝓤 H A (Whole κ q i)) (sem 𝓤 H A (fsep (Own κ d) extra))) (sep 𝓤 (sep 𝓤 (mean 𝓤 H A (Halves κ q i)) (sem 𝓤 H A (Handed κ d extra))) (emp 𝓤))
+  handed q i extra =
+      qed W (Whole κ q i ∷ ‵ (fsep (Own κ d) extra) ∷ []) ∵
       split ! $ use1 W (‵ (flft κ (PosShare·left q)) ⊛ ‵ (flft κ (PosShare·right q))) (W .lfts .lft-split κ q) $ split ! $ move ! (1 ∷ 2 ∷ []) $ join ! $ move ! (1 ∷ 0 ∷ []) $ join ! $
       -- [the halves; what the view owns, and extra]
       move ! (1 ∷ []) $ fsplit ! $ use1 W (‵ (Fields κ d)) opened $ use2 W (‵ (Handed κ d extra)) (behind extra) $ move ! (1 ∷ 0 ∷ []) $ join ! $ frame ! $ done !
 
   -- the token comes back
-  pub rejoined : (q : Share) → ent 𝓤 (mean 𝓤 H A (Halves κ q)) (mean 𝓤 H A (Token κ q))
-  rejoined q = qed W (Halves κ q ∷ []) ∵ split ! $ move ! (1 ∷ []) $ split ! $ move ! (2 ∷ 0 ∷ []) $ use2 W (‵ (flft κ q)) (W .lfts .lft-join κ q) $ frame ! $ done !
+  pub rejoined : (q : Share) (i : Item 𝓤) → ent 𝓤 (mean 𝓤 H A (Halves κ q i)) (mean 𝓤 H A (Whole κ q i))
+  rejoined q i = qed W (Halves κ q i ∷ []) ∵ split ! $ move ! (1 ∷ []) $ split ! $ move ! (2 ∷ 0 ∷ []) $ use2 W (‵ (flft κ q)) (W .lfts .lft-join κ q) $ frame ! $ done !
 
   -- ---- the walk of a function that hands back the field k
   module _ (q : Share) (k : ℕ) where
