@@ -206,6 +206,18 @@ run-most d f top side w x y h a b = le-trans (last-most d f top (count d w x y) 
     most : (n : ℕ) → n ≤ side → top * n ≤ top * side
     most n l = mul-le-mul-left top l
 
+-- only the pixels inside count
+pub run-ext : (d : Way) (f g : ℕ → ℕ → ℕ) (w h x y : ℕ) → x < w → y < h → ((x y : ℕ) → x < w → y < h → f x y ≡ g x y) → runSum d f w x y ≡ runSum d g w x y
+unfolding lastSum
+run-ext d f g w h x y a b e =
+    fold-ext _+_ 0 _ _ (count d w (x + 1) (y + 1)) (λ k l. e (backx d (x + 1 - 1) k) (backy d (y + 1 - 1) k) (at d k l .0) (at d k l .1))
+  where
+    at : (d : Way) (k : ℕ) → k < count d w (x + 1) (y + 1) → (backx d (x + 1 - 1) k < w) × (backy d (y + 1 - 1) k < h)
+    at along k l = omega arith
+    at down k l = omega arith
+    at fall k l = omega arith
+    at rise k l = omega arith
+
 -- ---- a table that holds the running sums of an image, whatever filled it
 
 pub record Holds (d : Way) (f : ℕ → ℕ → ℕ) (w h : ℕ) (t : List ℕ) : Type 0 where

@@ -21,7 +21,7 @@ orElse a b = pick (eqb (numberOf a) 0) b a
 
 -- W·H: "Working width W and height H are the input's times that factor"
 abbrev pub pixelsOf : ℕ → ℕ → ℕ → ℕ
-pixelsOf width height up = (width * factorOf up) * (height * factorOf up)
+pixelsOf width height up = factorOf up * width * (factorOf up * height)
 
 -- 2 width or height over 4,096; 3 image length differs from width times height; 4 W·H over 8,388,608
 unfoldable pub sizeRefusal : ℕ → ℕ → ℕ → ℕ → Answer

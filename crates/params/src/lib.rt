@@ -196,7 +196,7 @@ fn pixels(width: usize, height: usize, up: u32) -> usize
     ensures { λ r. ⌜ r ≡ pixelsOf width height up ⌝ }
 {
     let factor = clamped(up) as usize;
-    (width * factor) * (height * factor)
+    (factor * width) * (factor * height)
 }
 
 // Answers 2, 3 and 4: the sizes, and an image of `image` pixels.

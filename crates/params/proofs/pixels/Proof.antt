@@ -12,11 +12,11 @@ use Rattle.params.proofs.pixels.Tie as tie
 factor-most : (up : ℕ) {f : ℕ} → f ≡ factorOf up → f ≤ 2
 factor-most up e = omega arith
 
-wide : (c : tie.After-clamped) → c .before .args .width * c .clamped .result ≤ 8192
-wide c = mul-le-mul (c .before .pre .0) (factor-most _ (c .clamped .ensures))
+wide : (c : tie.After-clamped) → c .clamped .result * c .before .args .width ≤ 8192
+wide c = mul-le-mul (factor-most _ (c .clamped .ensures)) (c .before .pre .0)
 
-high : (c : tie.After-clamped) → c .before .args .height * c .clamped .result ≤ 8192
-high c = mul-le-mul (c .before .pre .1) (factor-most _ (c .clamped .ensures))
+high : (c : tie.After-clamped) → c .clamped .result * c .before .args .height ≤ 8192
+high c = mul-le-mul (factor-most _ (c .clamped .ensures)) (c .before .pre .1)
 
 pub pixels-spec : {M : Type 1} → statement M
 pixels-spec =

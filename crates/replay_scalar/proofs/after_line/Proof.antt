@@ -1,0 +1,27 @@
+-- `replay_scalar::after_line` meets its contract: it stops before 4096. Assumes nothing.
+use Prim.Native.Nat.{_-_, _≤_}
+use native.Mathlib.Omega.{arith}
+use borrow.Author.Needs.{needs}
+use Rattle.replay_scalar.proofs.after_line.Statement.{statement}
+use Rattle.replay_scalar.proofs.after_line.Tie as tie
+
+abbrev Inv-loop : tie.InvT-loop
+Inv-loop s i₀ i = i ≤ 4095
+
+abbrev μ-loop : tie.MeasureT-loop
+μ-loop s i₀ i = 4095 - i
+
+pub after-line-spec : {M : Type 1} → statement M
+after-line-spec =
+    tie.close
+    (tie.spec
+    Inv-loop
+    μ-loop
+    (λ c. omega arith)
+    (λ c κs. search needs)
+    (λ c. omega arith)
+    (λ c. omega arith)
+    (λ c. omega arith)
+    (λ c. omega arith)
+    (λ c. omega arith)
+    (λ c. omega arith))
