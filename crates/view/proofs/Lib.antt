@@ -1,0 +1,4 @@
+-- What the walks over a view share.
+pub mod Walk
+pub mod Viewed
+pub mod Lent

@@ -1,0 +1,36 @@
+-- `view::place_at` meets its contract: each way out is a case of `placeAt`, and a row inside ends within the response.
+-- Assumes nothing.
+use mathlib.Core.Path.{sym, _∙_}
+use native.Mathlib.Omega.{arith}
+use borrow.Author.Needs.{needs}
+use Rattle.view.specs.Steps.{row-ends, place-past, place-none, place-found}
+use Rattle.view.proofs.place_at.Statement.{statement}
+use Rattle.view.proofs.place_at.Tie as tie
+
+returns : tie.Need-returns
+returns c = place-past _ _ _ _ _ _ (c .if1 .taken)
+
+row-inside-requires : tie.Need-row-inside-requires
+row-inside-requires c κs = search needs
+
+mul-t11 : tie.Need-mul-t11
+mul-t11 c = omega (arith, row-ends _ _ _ _ _ (sym (c .if2 .taken) ∙ c .before .row-inside .ensures))
+
+add-t12 : tie.Need-add-t12
+add-t12 c = omega (arith, row-ends _ _ _ _ _ (sym (c .if2 .taken) ∙ c .before .row-inside .ensures))
+
+mul-t13 : tie.Need-mul-t13
+mul-t13 c = omega (arith, row-ends _ _ _ _ _ (sym (c .if2 .taken) ∙ c .before .row-inside .ensures))
+
+shared-slice-read-t15 : tie.Need-shared-slice-read-t15
+shared-slice-read-t15 c = omega (arith, row-ends _ _ _ _ _ (sym (c .before .if2 .taken) ∙ c .before .before .row-inside .ensures))
+
+returns-2 : tie.Need-returns-2
+returns-2 c = place-found _ _ _ _ _ _ (omega arith) (sym (c .before .if2 .taken) ∙ c .before .before .row-inside .ensures)
+
+returns-3 : tie.Need-returns-3
+returns-3 c = place-none _ _ _ _ _ _ (sym (c .if2 .left) ∙ c .before .row-inside .ensures)
+
+pub place-at-spec : {M : Type 1} → statement M
+place-at-spec =
+    tie.close (tie.spec returns row-inside-requires mul-t11 add-t12 mul-t13 shared-slice-read-t15 returns-2 returns-3)

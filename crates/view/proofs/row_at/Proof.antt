@@ -1,0 +1,61 @@
+-- `view::row_at` meets its contract: a row inside ends within the response, and what is handed back lies there.
+-- Assumes nothing.
+use mathlib.Core.Path.{refl, sym, _∙_}
+use native.Mathlib.Omega.{arith}
+use borrow.Author.Needs.{needs}
+use Rattle.view.specs.Steps.{row-ends, row-none, row-found}
+use Rattle.view.proofs.row_at.Statement.{statement}
+use Rattle.view.proofs.row_at.Tie as tie
+
+row-inside-requires : tie.Need-row-inside-requires
+row-inside-requires c κs = search needs
+
+mul-start : tie.Need-mul-start
+mul-start c = omega (arith, row-ends _ _ _ _ _ (sym (c .if1 .taken) ∙ c .before .row-inside .ensures))
+
+add-end : tie.Need-add-end
+add-end c = omega (arith, row-ends _ _ _ _ _ (sym (c .if1 .taken) ∙ c .before .row-inside .ensures))
+
+mul-result : tie.Need-mul-result
+mul-result c = omega (arith, row-ends _ _ _ _ _ (sym (c .if1 .taken) ∙ c .before .row-inside .ensures))
+
+sub-result : tie.Need-sub-result
+sub-result c = search needs
+
+part-result-start : tie.Need-part-result-start
+part-result-start c = search needs
+
+part-result-end : tie.Need-part-result-end
+part-result-end c = omega (arith, row-ends _ _ _ _ _ (sym (c .if1 .taken) ∙ c .before .row-inside .ensures))
+
+returns : tie.Need-returns
+returns c = row-found _ _ _ _ _ _ _ (sym (c .before .if1 .taken) ∙ c .before .before .row-inside .ensures) refl refl refl
+
+sub-result-2 : tie.Need-sub-result-2
+sub-result-2 c = search needs
+
+part-result-start-2 : tie.Need-part-result-start-2
+part-result-start-2 c = search needs
+
+part-result-end-2 : tie.Need-part-result-end-2
+part-result-end-2 c = search needs
+
+returns-2 : tie.Need-returns-2
+returns-2 c = row-none _ _ _ _ _ _ (sym (c .before .if1 .left) ∙ c .before .before .row-inside .ensures) refl refl
+
+pub row-at-spec : {M : Type 1} → statement M
+row-at-spec =
+    tie.close
+    (tie.spec
+    row-inside-requires
+    mul-start
+    add-end
+    mul-result
+    sub-result
+    part-result-start
+    part-result-end
+    returns
+    sub-result-2
+    part-result-start-2
+    part-result-end-2
+    returns-2)
