@@ -28,4 +28,6 @@ fn main() {
     }
     println!("cargo:rustc-link-search=native={}", folder.display());
     println!("cargo:rustc-link-lib=static=steyrbunk");
+    // The tests link it into a C program as well.
+    println!("cargo:rustc-env=STEYRBUNK_ARCHIVE={}", archive.display());
 }
