@@ -7,7 +7,7 @@ use std::sync::{mpsc, Mutex};
 use std::thread;
 
 use compare::{Held, Job, Pair, Source, Summary, BOUND};
-use console::{Progress, Usage, Word, Words};
+use console::{say, Progress, Usage, Word, Words};
 use judge::Sizes;
 
 const HELP: &str = "\
@@ -164,10 +164,10 @@ fn run(options: &Options, source: Source) -> Summary {
     progress.clear();
     let seconds = progress.seconds();
     let rate = summary.frames as f64 / seconds.max(1e-9);
-    println!(
-        "{seconds:.1} seconds, {rate:.0} frames a second, {} threads",
+    say(&format!(
+        "{seconds:.1} seconds, {rate:.0} frames a second, {} threads\n",
         options.threads.max(1)
-    );
+    ));
     summary
 }
 
@@ -177,21 +177,21 @@ fn tell(options: &Options, line: &Line, summary: &mut Summary, progress: &mut Pr
         Err(error) => {
             summary.unread += 1;
             progress.clear();
-            println!("{name}: NOT READ: {error}");
+            say(&format!("{name}: NOT READ: {error}\n"));
         }
         Ok(held) => {
             summary.add(held);
             if options.each || options.lists || !held.differences.is_empty() {
                 progress.clear();
-                println!("{name}: {held}");
+                say(&format!("{name}: {held}\n"));
             }
             if options.lists {
-                print!("{}", held.lists());
+                say(&held.lists());
             }
         }
     }
     if let Some(lost) = &line.lost {
-        println!("{lost}");
+        say(&format!("{lost}\n"));
     }
 }
 
@@ -203,7 +203,7 @@ fn main() -> ExitCode {
                 .or_else(|error| Usage::wrong(format!("{}: {error}", folder.display())))?;
         }
         let summary = run(&options, source);
-        print!("{summary}");
+        say(&summary.to_string());
         Ok(ExitCode::from(u8::from(!summary.agreed())))
     })
 }

@@ -6,4 +6,4 @@ mod words;
 
 pub use files::{inside, read, LONGEST};
 pub use progress::Progress;
-pub use words::{run, Usage, Word, Words};
+pub use words::{run, say, Usage, Word, Words};

@@ -1,8 +1,9 @@
 //! The words of a call: flags, their values, and paths.
 
 use std::ffi::OsString;
+use std::io::{self, Write};
 use std::path::PathBuf;
-use std::process::ExitCode;
+use std::process::{self, ExitCode};
 use std::str::FromStr;
 use std::{env, vec};
 
@@ -72,6 +73,13 @@ impl Words {
     }
 }
 
+/// Writes to standard output; where nobody reads it any more the command ends.
+pub fn say(text: &str) {
+    if io::stdout().write_all(text.as_bytes()).is_err() {
+        process::exit(1);
+    }
+}
+
 /// Runs a command: help goes to standard output, wrong words leave with 2, else the command's own status.
 pub fn run(
     name: &str,
@@ -81,7 +89,7 @@ pub fn run(
     match command(Words::of_call()) {
         Ok(code) => code,
         Err(Usage::Help) => {
-            print!("{help}");
+            say(help);
             ExitCode::SUCCESS
         }
         Err(Usage::Wrong(text)) => {
