@@ -15,14 +15,20 @@ const FIELDS: [(&str, What); 5] = [
     ("blur_scratch", What::Scratch),
 ];
 
-/// Reads the text word by word and stops at the first number that is not ours, or when all are read.
+/// Reads the text byte by byte and stops at the first number that is not ours, or when all are read.
 struct Reader<'a> {
     map: Map<'a>,
-    word: String,
-    /// The field whose list is being read, and how many of its numbers have gone by.
-    field: Option<What>,
+    /// The list that is being read, and how many of its numbers have gone by.
+    list: Option<What>,
     at: usize,
-    difference: Option<Difference>,
+    /// Outside a list the name that may be one's, inside it the number so far.
+    word: String,
+    outcome: Option<Outcome>,
+}
+
+enum Outcome {
+    Same,
+    Differs(Difference),
 }
 
 impl Reader<'_> {
@@ -39,72 +45,87 @@ impl Reader<'_> {
 
     /// Debug prints an f32 so that it reads back the same.
     fn theirs(&self, what: What) -> u32 {
-        let word = &self.word;
-        if what == What::Scratch {
-            return word.parse::<f32>().expect("a float").to_bits();
+        match what {
+            What::Scratch => self.word.parse::<f32>().expect("a float").to_bits(),
+            _ => self.word.parse().expect("a sum that fits"),
         }
-        word.parse().expect("a sum that fits")
     }
 
     fn number(&mut self, what: What) -> fmt::Result {
-        let (theirs, ours) = (
-            self.theirs(what),
-            self.ours(what).expect("as many entries as theirs"),
-        );
+        let theirs = self.theirs(what);
+        let ours = self.ours(what).expect("no more entries than ours");
         if theirs != ours {
             let (x, y) = (self.at % self.map.width, self.at / self.map.width);
-            self.difference = Some(Difference::Entry {
+            let difference = Difference::Entry {
                 what,
                 x,
                 y,
                 theirs,
                 ours,
-            });
-            return Err(fmt::Error);
+            };
+            return self.stop(Outcome::Differs(difference));
         }
         self.at += 1;
+        self.word.clear();
         Ok(())
+    }
+
+    /// The error stops the writer of the text.
+    fn stop(&mut self, outcome: Outcome) -> fmt::Result {
+        self.outcome = Some(outcome);
+        Err(fmt::Error)
     }
 
     /// Without blur nothing of ours is in the scratch, and what follows the tables is not made into text.
-    fn is_last(&self, what: What) -> bool {
-        what == What::Scratch || what == What::RisingTable && self.map.blur_scratch.is_empty()
+    fn end(&mut self, what: What) -> fmt::Result {
+        assert_eq!(
+            self.at,
+            self.map.working.len(),
+            "no fewer entries than ours"
+        );
+        self.list = None;
+        match what {
+            What::RisingTable if self.map.blur_scratch.is_empty() => self.stop(Outcome::Same),
+            What::Scratch => self.stop(Outcome::Same),
+            _ => Ok(()),
+        }
     }
 
-    fn character(&mut self, character: char) -> fmt::Result {
-        match character {
-            ':' => {
-                let name = FIELDS.iter().find(|(name, _)| *name == self.word);
-                (self.field, self.at) = (name.map(|(_, what)| *what), 0);
-            }
-            ',' | ']' => {
-                if let Some(what) = self.field {
-                    if !self.word.is_empty() {
-                        self.number(what)?;
-                    }
-                    if character == ']' {
-                        self.field = None;
-                        if self.is_last(what) {
-                            return Err(fmt::Error);
-                        }
-                    }
-                }
-            }
-            ' ' | '[' | '{' | '}' => {}
-            part => {
-                self.word.push(part);
-                return Ok(());
+    fn inside(&mut self, what: What, byte: u8) -> fmt::Result {
+        match byte {
+            b',' => self.number(what),
+            b']' if self.word.is_empty() => self.end(what),
+            b']' => self.number(what).and_then(|()| self.end(what)),
+            b'[' | b' ' => Ok(()),
+            digit => {
+                self.word.push(digit.into());
+                Ok(())
             }
         }
+    }
+
+    fn outside(&mut self, byte: u8) {
+        match byte {
+            b'a'..=b'z' | b'_' => return self.word.push(byte.into()),
+            b':' => {
+                let field = FIELDS.iter().find(|(name, _)| *name == self.word);
+                (self.list, self.at) = (field.map(|(_, what)| *what), 0);
+            }
+            _ => {}
+        }
         self.word.clear();
-        Ok(())
     }
 }
 
 impl Write for Reader<'_> {
     fn write_str(&mut self, text: &str) -> fmt::Result {
-        text.chars()
-            .try_for_each(|character| self.character(character))
+        for byte in text.bytes() {
+            match self.list {
+                Some(what) => self.inside(what, byte)?,
+                None => self.outside(byte),
+            }
+        }
+        Ok(())
     }
 }
 
@@ -112,12 +133,98 @@ impl Write for Reader<'_> {
 pub fn difference(theirs: &RadonBuffers, ours: Map) -> Option<Difference> {
     let mut reader = Reader {
         map: ours,
-        word: String::new(),
-        field: None,
+        list: None,
         at: 0,
-        difference: None,
+        word: String::new(),
+        outcome: None,
     };
-    // The error is the reader's own way to stop.
+    // An error is the reader's own way to stop.
     let _ = write!(reader, "{theirs:?}");
-    reader.difference
+    match reader.outcome.expect("all lists stand in the text") {
+        Outcome::Same => None,
+        Outcome::Differs(difference) => Some(difference),
+    }
+}
+
+#[cfg(test)]
+mod tests {
+    use judge::original;
+    use steyrbunk::{Finder, Image, Settings};
+
+    use super::*;
+
+    /// One entry changed in each buffer in turn: it is found where it stands, and named.
+    #[test]
+    fn each_table_is_read() {
+        let frame = judge::Frame {
+            blur: 1,
+            ..judge::document_frame()
+        };
+        let mut theirs = RadonBuffers::new();
+        original::radon_response_u8(&frame.pixels, 7, 7, &original::params(&frame), &mut theirs);
+        let settings = Settings {
+            ray_radius: 1,
+            image_upsample: 1,
+            response_blur_radius: 1,
+            ..Settings::default()
+        };
+        let (mut finder, pixels) = (Finder::new(), &frame.pixels);
+        let image = Image {
+            pixels,
+            width: 7,
+            height: 7,
+        };
+        let map = finder.response(image, &settings).expect("accepted");
+        assert_eq!(difference(&theirs, map), None);
+        let changed = |table: &[u32]| {
+            let mut table = table.to_vec();
+            table[48] += 1;
+            table
+        };
+        let found = |map: Map| match difference(&theirs, map) {
+            Some(Difference::Entry {
+                what, x: 6, y: 6, ..
+            }) => Some(what),
+            _ => None,
+        };
+        let table = changed(map.row_cumsum);
+        assert_eq!(
+            found(Map {
+                row_cumsum: &table,
+                ..map
+            }),
+            Some(What::RowTable)
+        );
+        let table = changed(map.col_cumsum);
+        assert_eq!(
+            found(Map {
+                col_cumsum: &table,
+                ..map
+            }),
+            Some(What::ColumnTable)
+        );
+        let table = changed(map.diag_pos_cumsum);
+        assert_eq!(
+            found(Map {
+                diag_pos_cumsum: &table,
+                ..map
+            }),
+            Some(What::FallingTable)
+        );
+        let table = changed(map.diag_neg_cumsum);
+        assert_eq!(
+            found(Map {
+                diag_neg_cumsum: &table,
+                ..map
+            }),
+            Some(What::RisingTable)
+        );
+        let mut scratch = map.blur_scratch.to_vec();
+        scratch[48] = -scratch[48];
+        let wrong = Map {
+            blur_scratch: &scratch,
+            ..map
+        };
+        assert_eq!(found(wrong), Some(What::Scratch));
+    }
 }
