@@ -6,7 +6,7 @@ fn main() {
     let (width, height) = (64, 48);
     let cell = |at: usize| (at % width + 3) / 16 + (at / width + 5) / 16;
     let pixels: Vec<u8> = (0..width * height)
-        .map(|at| [40, 200][cell(at) % 2])
+        .map(|at| [40, 120][cell(at) % 2])
         .collect();
 
     // One finder for many frames: it keeps its buffers.
