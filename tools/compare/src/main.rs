@@ -30,8 +30,8 @@ three logarithms) in working pixels, at most by one pixel, and by one step of an
   --keep FOLDER    writes each frame that differs into the folder
   --threads N      default 2
 
-The status is 0 if nothing differs that may not, 1 if something does or a file could not be read,
-2 if the words of the call are wrong.
+The status is 0 if nothing differs that may not, 1 if something does, a file could not be read or
+there was nothing to compare, 2 if the words of the call are wrong.
 ";
 
 struct Options {

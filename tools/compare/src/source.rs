@@ -135,13 +135,15 @@ impl Source {
             .then_some(made + self.queue.len() as u64)
     }
 
+    /// Some of the frames; fewer where they are read already and large.
     pub fn share(&mut self) -> Vec<Job> {
-        let mut jobs = Vec::new();
-        while jobs.len() < SHARE {
-            match self.next() {
-                Some(job) => jobs.push(job),
-                None => break,
+        let (mut jobs, mut bytes) = (Vec::new(), 0);
+        while jobs.len() < SHARE && bytes < LONGEST {
+            let Some(job) = self.next() else { break };
+            if let Job::Entry { file: Ok(file), .. } = &job {
+                bytes += file.len() as u64;
             }
+            jobs.push(job);
         }
         jobs
     }

@@ -28,9 +28,9 @@ impl Summary {
         }
     }
 
-    /// Nothing differs that may not, and everything was read.
+    /// Something was compared, everything was read, and nothing differs that may not.
     pub fn agreed(&self) -> bool {
-        self.differ == 0 && self.unread == 0
+        self.frames > 0 && self.differ == 0 && self.unread == 0
     }
 
     fn distances(&self, out: &mut fmt::Formatter<'_>) -> fmt::Result {

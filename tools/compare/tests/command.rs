@@ -90,6 +90,8 @@ fn files_and_folders() {
         "frames/2024/a.frame: agreed, 1 corners\nthe Rust:\n{list}ours:\n{list}"
     )));
     assert!(text.contains("frames/b.frame: agreed, refused 11\n"));
+    fs::create_dir_all(folder.join("empty")).unwrap();
+    assert_eq!(run(&folder, &["empty"]).1, 1, "nothing to compare");
     let (text, status) = run(&folder, &["frames/b.frame", "missing.frame"]);
     assert_eq!(status, 1);
     assert!(text.contains("missing.frame: NOT READ: "));

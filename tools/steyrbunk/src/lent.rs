@@ -1,7 +1,5 @@
 //! Safe calls over buffers that the caller lends: the C interface with slices for pointers.
 
-use std::ptr;
-
 use crate::raw;
 use crate::refusal::Refusal;
 use crate::settings::Settings;
@@ -57,86 +55,117 @@ impl Answer {
     }
 }
 
+/// What count and sizes hold before a call: the library writes them with every answer, so this is never seen.
+const UNWRITTEN: usize = usize::MAX;
+
+/// An entry that takes an image and the buffers; what else it takes stands between them and behind.
+macro_rules! call {
+    ($entry:ident, $image:ident, $settings:ident, [$($between:expr),*], $lent:ident, [$($behind:expr),*]) => {
+        // SAFETY: each pointer comes with the length of the slice it was taken from, the slices that
+        // are written are borrowed exclusively, and the library touches nothing beyond them.
+        unsafe {
+            raw::$entry(
+                $image.pixels.as_ptr(),
+                $image.pixels.len(),
+                $image.width,
+                $image.height,
+                $settings.ray_radius,
+                $settings.image_upsample,
+                $settings.response_blur_radius,
+                $($between,)*
+                $lent.working.as_mut_ptr(),
+                $lent.working.len(),
+                $lent.row_cumsum.as_mut_ptr(),
+                $lent.row_cumsum.len(),
+                $lent.col_cumsum.as_mut_ptr(),
+                $lent.col_cumsum.len(),
+                $lent.diag_pos_cumsum.as_mut_ptr(),
+                $lent.diag_pos_cumsum.len(),
+                $lent.diag_neg_cumsum.as_mut_ptr(),
+                $lent.diag_neg_cumsum.len(),
+                $lent.response.as_mut_ptr(),
+                $lent.response.len(),
+                $lent.blur_scratch.as_mut_ptr(),
+                $lent.blur_scratch.len(),
+                $($behind),*
+            )
+        }
+    };
+}
+
 /// Map and list of an image; the list takes three numbers a corner.
 pub fn find(image: Image, settings: &Settings, lent: Buffers, list: &mut [f32]) -> Answer {
-    let mut answer = Answer::default();
-    // SAFETY: each pointer comes with the length of the slice it was taken from, the slices that are
-    // written are borrowed exclusively, and the library touches nothing beyond them.
-    answer.number = unsafe {
-        raw::steyrbunk_find(
-            image.pixels.as_ptr(),
-            image.pixels.len(),
-            image.width,
-            image.height,
-            settings.ray_radius,
-            settings.image_upsample,
-            settings.response_blur_radius,
-            settings.peak_fit.number().into(),
+    find_by(
+        settings.peak_fit.number().into(),
+        image,
+        settings,
+        lent,
+        list,
+    )
+}
+
+/// The same with the mode as a number, which may be one that is refused.
+pub fn find_by(
+    mode: u32,
+    image: Image,
+    settings: &Settings,
+    lent: Buffers,
+    list: &mut [f32],
+) -> Answer {
+    let (mut count, mut width, mut height) = (UNWRITTEN, UNWRITTEN, UNWRITTEN);
+    let number = call!(
+        steyrbunk_find,
+        image,
+        settings,
+        [
+            mode,
             settings.threshold_rel,
             settings.nms_radius,
-            settings.min_cluster_size,
-            lent.working.as_mut_ptr(),
-            lent.working.len(),
-            lent.row_cumsum.as_mut_ptr(),
-            lent.row_cumsum.len(),
-            lent.col_cumsum.as_mut_ptr(),
-            lent.col_cumsum.len(),
-            lent.diag_pos_cumsum.as_mut_ptr(),
-            lent.diag_pos_cumsum.len(),
-            lent.diag_neg_cumsum.as_mut_ptr(),
-            lent.diag_neg_cumsum.len(),
-            lent.response.as_mut_ptr(),
-            lent.response.len(),
-            lent.blur_scratch.as_mut_ptr(),
-            lent.blur_scratch.len(),
+            settings.min_cluster_size
+        ],
+        lent,
+        [
             list.as_mut_ptr(),
             list.len(),
-            ptr::from_mut(&mut answer.count),
-            ptr::from_mut(&mut answer.width),
-            ptr::from_mut(&mut answer.height),
-        )
-    };
-    answer
+            &mut count,
+            &mut width,
+            &mut height
+        ]
+    );
+    Answer {
+        number,
+        count,
+        width,
+        height,
+    }
 }
 
 /// The map of an image; of the settings only the first three are looked at.
 pub fn response(image: Image, settings: &Settings, lent: Buffers) -> Answer {
-    let mut answer = Answer::default();
-    // SAFETY: as in `find`.
-    answer.number = unsafe {
-        raw::steyrbunk_response(
-            image.pixels.as_ptr(),
-            image.pixels.len(),
-            image.width,
-            image.height,
-            settings.ray_radius,
-            settings.image_upsample,
-            settings.response_blur_radius,
-            lent.working.as_mut_ptr(),
-            lent.working.len(),
-            lent.row_cumsum.as_mut_ptr(),
-            lent.row_cumsum.len(),
-            lent.col_cumsum.as_mut_ptr(),
-            lent.col_cumsum.len(),
-            lent.diag_pos_cumsum.as_mut_ptr(),
-            lent.diag_pos_cumsum.len(),
-            lent.diag_neg_cumsum.as_mut_ptr(),
-            lent.diag_neg_cumsum.len(),
-            lent.response.as_mut_ptr(),
-            lent.response.len(),
-            lent.blur_scratch.as_mut_ptr(),
-            lent.blur_scratch.len(),
-            ptr::from_mut(&mut answer.width),
-            ptr::from_mut(&mut answer.height),
-        )
-    };
-    answer
+    let (mut width, mut height) = (UNWRITTEN, UNWRITTEN);
+    let number = call!(
+        steyrbunk_response,
+        image,
+        settings,
+        [],
+        lent,
+        [&mut width, &mut height]
+    );
+    Answer {
+        number,
+        count: 0,
+        width,
+        height,
+    }
 }
 
-/// The list of a map; the answer's sizes stay 0.
+/// The list of a map; the answer's sizes are 0.
 pub fn peaks(view: View, settings: &Settings, list: &mut [f32]) -> Answer {
-    let mut answer = Answer::default();
-    // SAFETY: as in `find`.
+    let mut answer = Answer {
+        count: UNWRITTEN,
+        ..Answer::default()
+    };
+    // SAFETY: as above.
     answer.number = unsafe {
         raw::steyrbunk_peaks(
             view.response.as_ptr(),
@@ -154,7 +183,7 @@ pub fn peaks(view: View, settings: &Settings, list: &mut [f32]) -> Answer {
             settings.min_cluster_size,
             list.as_mut_ptr(),
             list.len(),
-            ptr::from_mut(&mut answer.count),
+            &mut answer.count,
         )
     };
     answer

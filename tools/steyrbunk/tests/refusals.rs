@@ -4,8 +4,8 @@ mod common;
 
 use common::{frame, image, Lent, DOCUMENT};
 use judge::{document_frame, Kind};
-use steyrbunk::lent::{self, Answer, View};
-use steyrbunk::{raw, Finder, Image, Refusal, Settings};
+use steyrbunk::lent::{self, Answer, Buffers, View};
+use steyrbunk::{Finder, Image, Refusal, Settings};
 
 fn refused(number: u32) -> Answer {
     Answer {
@@ -233,68 +233,30 @@ fn the_lowest_number() {
     refuses(9, true, image(&document), &settings, &lent);
 }
 
-/// The wrapper's type has two modes alone, so this is asked of the C interface; the mode is judged first.
+/// The settings' type has two modes alone; the number of another one is judged before all else.
 #[test]
 fn modes() {
-    for (mode, ray, expected) in [
+    let document = document_frame();
+    for (mode, ray_radius, number) in [
         (0, 1, 0),
         (1, 1, 0),
         (2, 1, 14),
         (u32::MAX, 1, 14),
         (2, 8, 14),
     ] {
-        let document = document_frame();
+        let settings = Settings {
+            ray_radius,
+            ..DOCUMENT
+        };
         let old = Lent::old(49, 30, 0x5A);
         let mut lent = old.clone();
-        let answer = lent.lend(|b, list| {
-            let mut answer = Answer {
-                number: 7,
-                count: 7,
-                width: 7,
-                height: 7,
-            };
-            let pixels = &document.pixels;
-            // SAFETY: each pointer comes with its slice's own length.
-            answer.number = unsafe {
-                raw::steyrbunk_find(
-                    pixels.as_ptr(),
-                    pixels.len(),
-                    7,
-                    7,
-                    ray,
-                    1,
-                    0,
-                    mode,
-                    0.28,
-                    1,
-                    2,
-                    b.working.as_mut_ptr(),
-                    b.working.len(),
-                    b.row_cumsum.as_mut_ptr(),
-                    b.row_cumsum.len(),
-                    b.col_cumsum.as_mut_ptr(),
-                    b.col_cumsum.len(),
-                    b.diag_pos_cumsum.as_mut_ptr(),
-                    b.diag_pos_cumsum.len(),
-                    b.diag_neg_cumsum.as_mut_ptr(),
-                    b.diag_neg_cumsum.len(),
-                    b.response.as_mut_ptr(),
-                    b.response.len(),
-                    b.blur_scratch.as_mut_ptr(),
-                    b.blur_scratch.len(),
-                    list.as_mut_ptr(),
-                    list.len(),
-                    &mut answer.count,
-                    &mut answer.width,
-                    &mut answer.height,
-                )
-            };
-            answer
-        });
-        assert_eq!(answer.number, expected);
-        if expected == 14 {
-            assert_eq!(answer, refused(14));
-            assert_eq!(lent, old);
+        let find = |buffers: Buffers, list: &mut [f32]| {
+            lent::find_by(mode, image(&document), &settings, buffers, list)
+        };
+        let answer = lent.lend(find);
+        assert_eq!(answer.number, number);
+        if number == 14 {
+            assert_eq!((answer, lent), (refused(14), old));
         }
     }
 }
