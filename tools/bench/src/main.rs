@@ -1,6 +1,7 @@
 //! `bench`: map, list and whole, ours and the Rust's two builds, on the same frames in one run.
 
 mod clock;
+mod frames;
 mod sides;
 mod table;
 
@@ -8,8 +9,7 @@ use std::process::ExitCode;
 
 use clock::timed;
 use console::{Usage, Word, Words};
-use judge::random::Random;
-use judge::{pictures, Kind};
+use frames::Picture;
 use sides::{Default64, Ours, Side, Tables32};
 use steyrbunk::{Image, Settings};
 use table::{Row, Times};
@@ -17,10 +17,11 @@ use table::{Row, Times};
 const HELP: &str = "\
 bench times the proved finder against the published Rust, one thread each, and prints Markdown.
 
-  bench [--repeats N] [--picture board|noise|flat] [--largest WIDTH]
+  bench [--repeats N] [--picture NAME] [--largest WIDTH]
 
   --repeats N       timed calls of each kind, of which the median counts (default 9)
-  --picture NAME    what the frames show (default board: turned, softened, a little noise)
+  --picture NAME    what the frames show: panel (default; a turned board, twenty cells across), board
+                    (small cells), noise or flat
   --largest WIDTH   leaves out frames that are wider (default 4096)
 
 The sides take turns, call by call, so that what disturbs the machine disturbs them alike. Before
@@ -87,14 +88,14 @@ impl Pass {
 
 struct Options {
     repeats: usize,
-    kind: Kind,
+    picture: (String, Picture),
     largest: usize,
 }
 
 fn options(mut words: Words) -> Result<Options, Usage> {
     let mut options = Options {
         repeats: 9,
-        kind: Kind::Board,
+        picture: ("panel".to_string(), Picture::Panel),
         largest: 4_096,
     };
     while let Some(word) = words.word()? {
@@ -105,12 +106,11 @@ fn options(mut words: Words) -> Result<Options, Usage> {
             "--repeats" => options.repeats = words.value(&flag, "a number")?,
             "--largest" => options.largest = words.value(&flag, "a width")?,
             "--picture" => {
-                options.kind = match words.value::<String>(&flag, "a name")?.as_str() {
-                    "board" => Kind::Board,
-                    "noise" => Kind::Random,
-                    "flat" => Kind::Flat,
-                    name => return Usage::wrong(format!("no picture is called {name}")),
-                }
+                let name: String = words.value(&flag, Picture::NAMES)?;
+                let picture = Picture::from_name(&name);
+                let picture =
+                    picture.ok_or_else(|| Usage::Wrong(format!("no picture is called {name}")))?;
+                options.picture = (name, picture);
             }
             _ => return Usage::wrong(format!("{flag} is not known")),
         }
@@ -174,13 +174,12 @@ fn row(image: Image, factor: u32, pass: Pass, repeats: usize, copy: &mut Copy) -
 
 fn run(options: &Options) {
     let mut copy = Copy::new(Pass::Whole.moved(GREATEST_WORKING, GREATEST_WORKING) / 2);
-    table::open(options.repeats);
+    table::open(options.repeats, &options.picture.0);
     for (width, height) in SIZES
         .into_iter()
         .filter(|(width, _)| *width <= options.largest)
     {
-        let random = &mut Random::new(1, width as u64);
-        let pixels = pictures::picture(random, options.kind, width, height);
+        let pixels = options.picture.1.pixels(width, height);
         let image = Image {
             pixels: &pixels,
             width,

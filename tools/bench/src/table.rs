@@ -40,13 +40,15 @@ pub struct Row {
     pub times: Times,
 }
 
-pub fn open(repeats: usize) {
+pub fn open(repeats: usize, picture: &str) {
     let (arch, system) = (std::env::consts::ARCH, std::env::consts::OS);
     println!(
         "Medians of {repeats} calls, {}, one thread, release builds, {arch} {system}.",
         clock::NAME
     );
-    println!("Buffers are kept from call to call and not cleared, on all sides.");
+    println!(
+        "Picture: {picture}. Buffers are kept from call to call and not cleared, on all sides."
+    );
     println!();
     println!("| Frame and factor | Pass | Corners | Ours, ns a working pixel | Rust, default | Rust, u32 tables | Default / ours | u32 / ours | Bytes moved a working pixel | Ours / a copy that moves as much |");
     println!("|---|---|---:|---:|---:|---:|---:|---:|---:|---:|");

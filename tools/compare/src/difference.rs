@@ -68,6 +68,12 @@ pub enum Difference {
         theirs: usize,
         ours: usize,
     },
+    /// The first corner that only one list has, after all that both have; its bits.
+    Alone {
+        index: usize,
+        theirs: bool,
+        corner: [u32; 3],
+    },
     /// The first corner that differs.
     Corner {
         index: usize,
@@ -119,6 +125,17 @@ impl fmt::Display for Difference {
             }
             Difference::Count { theirs, ours } => {
                 write!(out, "count: the Rust {theirs}, ours {ours}")
+            }
+            Difference::Alone {
+                index,
+                theirs,
+                corner: [x, y, strength],
+            } => {
+                let whose = if *theirs { "the Rust's" } else { "ours" };
+                write!(
+                    out,
+                    "corner {index} is {whose} alone: {x:08X} {y:08X} {strength:08X}"
+                )
             }
             Difference::Corner {
                 index,

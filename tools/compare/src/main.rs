@@ -23,7 +23,7 @@ three logarithms) in working pixels, at most by one pixel, and by one step of an
 
   --max-side M     made frames with sides up to M; without it they have the program's size, up to
                    2,304 working pixels
-  --bound B        the bound for Gaussian places (default 1e-5)
+  --bound B        the bound for Gaussian places (default 5e-6)
   --no-tables      leaves the four tables and the scratch out, which is several times as fast
   --lists          prints both lists of each frame
   --each           prints a line for each made frame; for files this is done anyway

@@ -194,11 +194,23 @@ fn lists(
         });
     }
     let mut pairs = theirs.iter().zip(ours).enumerate();
-    differences.extend(pairs.find_map(|(index, (theirs, ours))| {
+    let first = pairs.find_map(|(index, (theirs, ours))| {
         let [x, y] = near(theirs, ours);
         corner(index, theirs.bits(), ours.bits(), [x, y, false])
-    }));
+    });
+    differences.extend(first.or_else(|| alone(theirs, ours)));
     differences
+}
+
+/// The corner after the last that both lists have.
+fn alone(theirs: &[Corner], ours: &[Corner]) -> Option<Difference> {
+    let index = theirs.len().min(ours.len());
+    let corner = theirs.get(index).or(ours.get(index))?.bits();
+    Some(Difference::Alone {
+        index,
+        theirs: theirs.len() > index,
+        corner,
+    })
 }
 
 /// The first number of a corner that is neither equal nor near enough.
