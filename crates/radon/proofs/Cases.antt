@@ -106,6 +106,11 @@ module _ (f : ℕ → ℕ → ℕ) (w h : ℕ) (p : RadonDetectorParams) (b : Ma
   unfolding mappedBy
   long = le-min (rw length-filled response-room) (rw length-filled working-room)
 
+-- what the passes had, from the whole table
+pub runs-by : (w h : ℕ) (p : RadonDetectorParams) (image : ℕ) (b : MapBuffers) → numberOf (refusalOf w h image p (roomOf b)) ≡ 0
+    → Runs (factorOf (p .«image_upsample»)) (rayOf (p .«ray_radius»)) (p .«response_blur_radius») w h image b
+runs-by w h p image b e = runs-of w h p image b refl refl refl (map-zero w h image p (roomOf b) e)
+
 -- ---- the whole call
 
 module _ (img : List ℕ) (w h : ℕ) (p : RadonDetectorParams) (b : Buffers) {room : ℕ} (r : room ≡ roomOf (b .map)) {a : Answer} (e : a ≡ refusalOf w h (length img) p room) {n : ℕ} (k : n ≡ numberOf a) where
@@ -123,7 +128,7 @@ module _ (img : List ℕ) (w h : ℕ) (p : RadonDetectorParams) (b : Buffers) {r
     zero-answered = sym (ap numberOf is-answered) ∙ sym k ∙ z
 
     runs : Runs (factorOf (p .«image_upsample»)) (rayOf (p .«ray_radius»)) (p .«response_blur_radius») w h (length img) (b .map)
-    runs = runs-of w h p (length img) (b .map) refl refl refl (map-zero w h (length img) p (roomOf (b .map)) zero-answered)
+    runs = runs-by w h p (length img) (b .map) zero-answered
 
     -- what the map's entry reported and left
     map-accepted-by : {m : Mapped} {after : MapBuffers} → m ≡ mappedOf img w h p (b .map) → after ≡ mapBuffersOf img w h p (b .map)

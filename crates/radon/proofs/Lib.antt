@@ -1,2 +1,4 @@
--- Steps of the finder's proof, and the demands as theorems.
+-- The demands as theorems (open this first), document 01's table P, and the steps of the finder's proof.
+pub mod Demands
+pub mod TableP
 pub mod Cases
