@@ -1,8 +1,8 @@
 -- The order of floats: what is at most y, with y below z, is below z, for every float, both zeros and the infinities included. Assumes nothing.
-use mathlib.Core.Path.{_≡_, sym, ap, _∙_}
+use mathlib.Core.Path.{_≡_, refl, sym, ap, _∙_}
 use mathlib.Core.Logic.{_⊎_, inl, inr}
 use mathlib.Core.Bool.{_||_, Bool, true, false, _&&_, or-true, true≢false}
-use borrow.Author.Tests.{ltb-false, lt-ltb, eq-eqb}
+use borrow.Author.Tests.{ltb-false, lt-ltb, le-ltb, eq-eqb}
 use Prim.Native.Nat.{ℕ, _+_, _*_, _≤_, _<_}
 use native.Mathlib.Nat.{le-of-lt, le-of-eq, mul-right-comm, eq-zero-or-pos, eq-or-lt-of-le, mul-le-mul-right, mul-lt-mul-of-pos-right, lt-of-mul-lt-mul-right, mul-pos, zero-mul}
 use native.Mathlib.Omega.{arith}
@@ -160,3 +160,12 @@ le-of-not-lt (fin true m e) (fin true n d) p q h =
       | inl z ↦ rw (eq-eqb (m * up e * down d) (n * up d * down e) (sym z), or-true) tt
       | inr k ↦ rw (lt-ltb _ _ k) tt
     ]
+
+-- nothing is below itself
+pub lt-itself : (x : Float) → lt x x ≡ false
+unfolding lt
+lt-itself nan = refl
+lt-itself (inf true) = refl
+lt-itself (inf false) = refl
+lt-itself (fin true m e) = le-ltb (m * up e * down e) (m * up e * down e) (omega arith)
+lt-itself (fin false m e) = le-ltb (m * up e * down e) (m * up e * down e) (omega arith)

@@ -1,13 +1,14 @@
 -- A product of numbers that are not negative grows with its first factor, zeros of either sign included. Assumes nothing.
 use mathlib.Core.Path.{_≡_, refl, sym, ap, _∙_}
 use mathlib.Core.Logic.{_⊎_, inl, inr}
-use mathlib.Core.Bool.{Bool, true, false}
+use mathlib.Core.Bool.{Bool, true, false, cond, true≢false}
+use borrow.Author.Tests.{eq-eqb}
 use Prim.Native.Nat.{ℕ, _*_, _≤_, _<_, zero-le}
 use native.Mathlib.Nat.{zero-mul, mul-zero, mul-pos, mul-le-mul-right, mul-mul-mul-comm}
 use native.Mathlib.Omega.{arith}
-use lib.Dec.{T, lit<}
+use lib.Dec.{T, lit<, eqb}
 use lib.IntN.{pos}
-use lib.Ieee.{Float, nan, inf, fin, binary32, up, down, round, mul, lt, le, ofBits}
+use lib.Ieee.{Float, nan, inf, fin, binary32, up, down, unlike, round, mul, lt, le, ofBits}
 use lib.Ieee.Fits.{down-pos, up-pos}
 use lib.Ieee.Order.{round-mono}
 use lib.Ieee.Positive.{num, den, den-pos}
@@ -29,7 +30,7 @@ nonneg (inf s) f h = absurd f
 nonneg (fin false m e) f h = tt
 nonneg (fin true m e) f h = no-factor m (up e) (up-pos e) (no-factor (m * up e) 1 (lit< tt) (sym (both-eq (0 * down e) (m * up e * 1) h .0) ∙ zero-mul (down e)))
 
-round-zero : (s : Bool) (c : ℕ) → 0 < c → round binary32 s 0 c ≡ fin s 0 (pos 0)
+pub round-zero : (s : Bool) (c : ℕ) → 0 < c → round binary32 s 0 c ≡ fin s 0 (pos 0)
 unfolding round
 round-zero s c h = round-same binary32 s 0 c 0 1 h (lit< tt) (zero-mul 1 ∙ sym (zero-mul c)) ∙ refl
 
@@ -108,3 +109,51 @@ pub product-lower : (x y z v : Float) → T (le f0 x) → T (le x y) → T (le f
 product-lower x y z v a b c d f g k =
     let fy : T (finite y) = finite-under y f1 c d one in
     lower x y z v (nonneg x (finite-under x y a b fy) a) (nonneg y fy c) (nonneg z f g) b k
+
+-- ---- of any number that is not negative, infinity included
+
+-- nothing is above an infinite product, or above the NaN that 0 times infinity is
+pub infinite-product : (y v : Float) → T (le f0 y) → lt (mul binary32 y (inf false)) v ≡ false
+unfolding ofBits le mul lt
+infinite-product nan v h = absurd h
+infinite-product (inf true) v h = absurd h
+infinite-product (inf false) nan h = refl
+infinite-product (inf false) (inf t) h = refl
+infinite-product (inf false) (fin t n d) h = refl
+infinite-product (fin s m e) v h = go s (eqb m 0) refl v h
+  where
+    go : (s b : Bool) → eqb m 0 ≡ b → (v : Float) → T (le f0 (fin s m e)) → lt (cond b nan (inf (unlike s false))) v ≡ false
+    go s true q v h = refl
+    go false false q nan h = refl
+    go false false q (inf t) h = refl
+    go false false q (fin t n d) h = refl
+    go true false q v h =
+        let z : m ≡ 0 = nonneg (fin true m e) tt h in
+        absurd (true≢false (sym (eq-eqb m 0 z) ∙ q))
+
+-- two fractions between 0 and 1: what is above the larger's product is above the smaller's
+pub fraction-lower : (x y z v : Float) → T (le f0 x) → T (le x y) → T (le f0 y) → T (le y f1) → T (le f0 z) → T (lt (mul binary32 y z) v) → T (lt (mul binary32 x z) v)
+unfolding ofBits le
+fraction-lower x y nan v a b c d g k = absurd g
+fraction-lower x y (inf true) v a b c d g k = absurd g
+fraction-lower x y (inf false) v a b c d g k = absurd (rw (infinite-product y v c) at k)
+fraction-lower x y (fin s m e) v a b c d g k = product-lower x y (fin s m e) v a b c d tt g k
+
+-- nothing is above a product with 0 that is not above 0
+pub zero-product : (x v : Float) → T (le f0 x) → T (le x f1) → lt f0 v ≡ false → lt (mul binary32 x f0) v ≡ false
+unfolding ofBits le mul
+zero-product nan v h l n = absurd h
+zero-product (inf true) v h l n = absurd h
+zero-product (inf false) v h l n = absurd l
+zero-product (fin s m e) v h l n = rw (mul-zero (m * up e), round-zero (unlike s false) (down e * 1) (mul-pos (down-pos e) (lit< tt))) (stays (unlike s false))
+  where
+    zeros : (t : Bool) → T (le f0 (fin t 0 (pos 0)))
+    zeros true = tt
+    zeros false = tt
+
+    stays : (t : Bool) → lt (fin t 0 (pos 0)) v ≡ false
+    stays t = go (lt (fin t 0 (pos 0)) v) refl
+      where
+        go : (b : Bool) → lt (fin t 0 (pos 0)) v ≡ b → b ≡ false
+        go true y = absurd (rw n at (le-lt-trans f0 (fin t 0 (pos 0)) v (zeros t) (rw y tt)))
+        go false y = refl

@@ -108,6 +108,10 @@ module _ {A : Type 0} where
   unfolding count
   count-no p l a h e = rw (keep-no p l a e) h
 
+  pub count-append : (p : A → Bool) (l m : List A) → count p (l ++ m) ≡ count p l + count p m
+  unfolding count keep
+  count-append p l m = rw each-append (length-append (keep p l) (keep p m))
+
   pub count-most : (p : A → Bool) (l : List A) → count p l ≤ length l
   unfolding count keep each
   count-most p [] = omega arith
@@ -139,3 +143,25 @@ module _ {A : Type 0} where
   pub any-yes : (p : A → Bool) (l : List A) (a : A) (m : List A) → p a ≡ true → any p (l ++ (a ∷ m)) ≡ true
   unfolding any
   any-yes p l a m e = rw (any-append, e) (or-true (any p l))
+
+-- entries that are made of others, one of each
+module _ {A B : Type 0} (g : A → B) where
+  pub count-made : (p : B → Bool) (l : List A) → count p (each (λ a. g a ∷ []) l) ≡ count (λ a. p (g a)) l
+  unfolding count keep each
+  count-made p [] = refl
+  count-made p (a ∷ l) =
+      omega (arith, length-append (once (p (g a)) (g a)) (keep p (each (λ b. g b ∷ []) l)), length-append (once (p (g a)) a) (keep (λ b. p (g b)) l), one (p (g a)), count-made p l)
+    where
+      one : (b : Bool) → length (once b (g a)) ≡ length (once b a)
+      one true = refl
+      one false = refl
+
+  pub any-made : (p : B → Bool) (l : List A) → any p (each (λ a. g a ∷ []) l) ≡ any (λ a. p (g a)) l
+  unfolding any each
+  any-made p [] = refl
+  any-made p (a ∷ l) = ap (λ (b : Bool). p (g a) || b) (any-made p l)
+
+pub any-each : {A B : Type 0} (p : B → Bool) (f : A → List B) (l : List A) → any p (each f l) ≡ any (λ a. any p (f a)) l
+unfolding any each
+any-each p f [] = refl
+any-each p f (a ∷ l) = any-append p (f a) (each f l) ∙ ap (λ (b : Bool). any p (f a) || b) (any-each p f l)

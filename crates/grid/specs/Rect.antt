@@ -1,14 +1,14 @@
 -- Places in row order: `rect ax ex ay ey` lists each (x, y) with ax ≤ x < ex and ay ≤ y < ey, a row at a time.
 -- `for y in ay..ey { for x in ax..ex { .. } }` has passed `rect ax ex ay y` at the head of the outer loop and `before ax ex ay x y` at that of the inner:
 -- `Down` and `Across` are their invariants over any state. Assumes nothing.
-use mathlib.Core.Path.{_≡_, refl, ap, _∙_}
+use mathlib.Core.Path.{_≡_, refl, sym, ap, _∙_}
 use Prim.Native.Nat.{ℕ, zero, suc, _+_, _-_, _*_, _≤_, _<_}
 use native.Mathlib.Nat.{sub-self, zero-add, suc-add, add-zero, one-mul, mul-le-mul}
 use native.Mathlib.Omega.{arith}
 use mathlib.Core.List.{List, [], _∷_, _++_, append-assoc, append-nil}
-use mathlib.Core.Bool.{Bool, true}
+use mathlib.Core.Bool.{Bool, true, false, _||_}
 use lib.ListN.{length, length-append}
-use Rattle.grid.specs.Each.{length-each, any, any-yes, each, each-append, each-none, each-more}
+use Rattle.grid.specs.Each.{each, each-append, each-each, each-one, each-none, each-more, length-each, once, keep, count, any, any-yes, any-made, any-each, count-made}
 
 pub record Place : Type 0 where
   pub x : ℕ
@@ -54,6 +54,42 @@ range-more a i h = range-split a i (i + 1) h (omega arith) ∙ ap (λ (l : List 
 pub range-at : (a i e : ℕ) → a ≤ i → i < e → range a e ≡ range a i ++ (i ∷ range (i + 1) e)
 range-at a i e h k =
     range-split a i e h (omega arith) ∙ ap (λ (l : List ℕ). range a i ++ l) (range-split i (i + 1) e (omega arith) (omega arith) ∙ ap (λ (l : List ℕ). l ++ range (i + 1) e) (range-one i))
+
+-- a number counts only where it stands in the range
+module _ {B : Type 0} where
+  from-ext : (f g : ℕ → List B) (a n : ℕ) → ((i : ℕ) → a ≤ i → i < a + n → f i ≡ g i) → each f (from a n) ≡ each g (from a n)
+  unfolding from each
+  from-ext f g a zero h = refl
+  from-ext f g a (suc n) h = rw (h a (omega arith) (omega arith), from-ext f g (suc a) n (λ i b c. h i (omega arith) (omega arith)))
+
+  pub range-ext : (f g : ℕ → List B) (a e : ℕ) → ((i : ℕ) → a ≤ i → i < e → f i ≡ g i) → each f (range a e) ≡ each g (range a e)
+  unfolding range
+  range-ext f g a e h = from-ext f g a (e - a) (λ i b c. h i b (omega arith))
+
+pub count-range-ext : (p q : ℕ → Bool) (a e : ℕ) → ((i : ℕ) → a ≤ i → i < e → p i ≡ q i) → count p (range a e) ≡ count q (range a e)
+unfolding count keep
+count-range-ext p q a e h = ap length (range-ext _ _ a e (λ i b c. ap (λ (t : Bool). once t i) (h i b c)))
+
+any-from : (p : ℕ → Bool) (a n : ℕ) → ((i : ℕ) → a ≤ i → i < a + n → p i ≡ false) → any p (from a n) ≡ false
+unfolding from any
+any-from p a zero h = refl
+any-from p a (suc n) h = rw (h a (omega arith) (omega arith), any-from p (suc a) n (λ i b c. h i (omega arith) (omega arith)))
+
+pub any-range-none : (p : ℕ → Bool) (a e : ℕ) → ((i : ℕ) → a ≤ i → i < e → p i ≡ false) → any p (range a e) ≡ false
+unfolding range
+any-range-none p a e h = any-from p a (e - a) (λ i b c. h i b (omega arith))
+
+-- counted from its first number
+from-made : (a b n : ℕ) → from (a + b) n ≡ each (λ k. (a + k) ∷ []) (from b n)
+unfolding from each
+from-made a b zero = refl
+from-made a b (suc n) = ap (λ (l : List ℕ). (a + b) ∷ l) (ap (λ (k : ℕ). from k n) (omega arith) ∙ from-made a (suc b) n)
+
+pub range-made : (a e : ℕ) → range a e ≡ each (λ k. (a + k) ∷ []) (range 0 (e - a))
+unfolding range
+range-made a e =
+    let n : e - a - 0 ≡ e - a = omega arith in
+    rw n (ap (λ (k : ℕ). from k (e - a)) (omega arith) ∙ from-made a 0 (e - a))
 
 -- the places of a row
 unfoldable pub line : ℕ → ℕ → ℕ → List Place
@@ -111,6 +147,38 @@ module _ (ax ex ay : ℕ) where
   unfolding before rect line each
   rect-at ey x y a b c d = rw (range-at ay y ey c d, range-at ax x ex a b) (simp (each-append, append-assoc))
 
+-- a row as the places at ax + k, and what it has
+pub line-made : (ax ex y : ℕ) → line ax ex y ≡ each (λ k. place (ax + k) y ∷ []) (range 0 (ex - ax))
+unfolding line
+line-made ax ex y = rw range-made (each-each _ _ _ ∙ range-ext _ _ 0 (ex - ax) (λ i b c. each-one _ (ax + i)))
+
+pub count-line : (p : Place → Bool) (ax ex y : ℕ) → count p (line ax ex y) ≡ count (λ k. p (place (ax + k) y)) (range 0 (ex - ax))
+count-line p ax ex y = rw line-made (count-made (λ k. place (ax + k) y) p (range 0 (ex - ax)))
+
+pub any-line-none : (p : Place → Bool) (ax ex y : ℕ) → ((k : ℕ) → k < ex - ax → p (place (ax + k) y) ≡ false) → any p (line ax ex y) ≡ false
+any-line-none p ax ex y h = rw line-made (any-made (λ k. place (ax + k) y) p (range 0 (ex - ax)) ∙ any-range-none _ 0 (ex - ax) (λ k b c. h k c))
+
+-- none of the places inside
+pub any-rect-none : (p : Place → Bool) (ax ex ay ey : ℕ) → ((x y : ℕ) → ax ≤ x → x < ex → ay ≤ y → y < ey → p (place x y) ≡ false) → any p (rect ax ex ay ey) ≡ false
+unfolding rect
+any-rect-none p ax ex ay ey h =
+    any-each p (λ y. line ax ex y) (range ay ey) ∙ any-range-none _ ay ey (λ y b c. any-line-none p ax ex y (λ k l. h (ax + k) y (omega arith) (omega arith) b c))
+
+-- only what a test says of the places inside counts
+module _ (p q : Place → Bool) where
+  pub keep-line-ext : (ax ex y : ℕ) → ((x : ℕ) → ax ≤ x → x < ex → p (place x y) ≡ q (place x y)) → keep p (line ax ex y) ≡ keep q (line ax ex y)
+  unfolding line keep
+  keep-line-ext ax ex y h =
+      each-each _ _ (range ax ex)
+      ∙ range-ext _ _ ax ex (λ x b c. each-one _ (place x y) ∙ ap (λ (t : Bool). once t (place x y)) (h x b c) ∙ sym (each-one (λ o. once (q o) o) (place x y)))
+      ∙ sym (each-each _ _ (range ax ex))
+
+  pub keep-rect-ext : (ax ex ay ey : ℕ) → ((x y : ℕ) → ax ≤ x → x < ex → ay ≤ y → y < ey → p (place x y) ≡ q (place x y))
+      → keep p (rect ax ex ay ey) ≡ keep q (rect ax ex ay ey)
+  unfolding rect keep
+  keep-rect-ext ax ex ay ey h =
+      each-each _ _ (range ay ey) ∙ range-ext _ _ ay ey (λ y b c. keep-line-ext ax ex y (λ x d e. h x y d e b c)) ∙ sym (each-each _ _ (range ay ey))
+
 -- ---- the two loops over a rectangle: `S l` says what the loop's variables are once the places l are passed
 pub record Down (S : List Place → Type 0) (ax ex ay ey y : ℕ) : Type 0 where
   pub least : ay ≤ y
@@ -141,6 +209,12 @@ module _ (S : List Place → Type 0) (ax ex ay ey : ℕ) where
       let e : y ≡ ey = omega arith in
       rw e at (r .holds)
 
+-- a turn that takes a row whole
+pub down-row : (S S′ : List Place → Type 0) (ax ex ay ey : ℕ) {y : ℕ} → Down S ax ex ay ey y → y < ey
+    → (S (rect ax ex ay y) → S′ (rect ax ex ay y ++ line ax ex y)) → Down S′ ax ex ay ey (y + 1)
+unfolding before
+down-row S S′ ax ex ay ey {y} r l f = record { least = omega arith; most = omega arith; holds = rw (← before-last ax ex ay y (r .least)) (f (r .holds)) }
+
 -- what holds besides
 pub down-map : {S S′ : List Place → Type 0} {ax ex ay ey y : ℕ} → ((l : List Place) → S l → S′ l) → Down S ax ex ay ey y → Down S′ ax ex ay ey y
 down-map {ax = ax} {ex = ex} {ay = ay} {y = y} f r = record { least = r .least; most = r .most; holds = f (rect ax ex ay y) (r .holds) }
@@ -151,6 +225,18 @@ pub across-more : (S S′ : List Place → Type 0) (ax ex ay ey : ℕ) {y x : �
 across-more S S′ ax ex ay ey {y} {x} c l f =
     record { least = omega arith; most = omega arith; low = c .low; high = c .high; holds = rw (before-more ax ex ay x y (c .least)) (f (c .holds)) }
 
--- what a turn finds, the rectangle has
+-- turns that are passed over: the state stays as it is
+pub across-skip : (S : List Place → Type 0) (ax ex ay ey : ℕ) (d : ℕ) {y x : ℕ} → Across S ax ex ay ey y x → x + d ≤ ex
+    → ((k : ℕ) → x ≤ k → k < x + d → S (before ax ex ay k y) → S (before ax ex ay k y ++ (place k y ∷ []))) → Across S ax ex ay ey y (x + d)
+across-skip S ax ex ay ey zero c l f = rw add-zero c
+across-skip S ax ex ay ey (suc d) {y} {x} c l f =
+    let e : x + suc d ≡ x + d + 1 = omega arith in
+    rw e (across-more S S ax ex ay ey (across-skip S ax ex ay ey d c (omega arith) (λ k a b. f k a (omega arith))) (omega arith) (f (x + d) (omega arith) (omega arith)))
+
+-- what is found at a place inside, the rectangle has
+pub any-in : (p : Place → Bool) (ax ex ay ey x y : ℕ) → ax ≤ x → x < ex → ay ≤ y → y < ey → p (place x y) ≡ true → any p (rect ax ex ay ey) ≡ true
+any-in p ax ex ay ey x y a b c d e = rw (rect-at ax ex ay ey x y a b c d) (any-yes p (before ax ex ay x y) (place x y) (after ax ex ay ey x y) e)
+
+-- what a turn finds
 pub any-at : {S : List Place → Type 0} {ax ex ay ey y x : ℕ} (p : Place → Bool) → Across S ax ex ay ey y x → x < ex → p (place x y) ≡ true → any p (rect ax ex ay ey) ≡ true
-any-at {ax = ax} {ex = ex} {ay = ay} {ey = ey} {y = y} {x = x} p c l e = rw (rect-at ax ex ay ey x y (c .least) l (c .low) (c .high)) (any-yes p (before ax ex ay x y) (place x y) (after ax ex ay ey x y) e)
+any-at {ax = ax} {ex = ex} {ay = ay} {ey = ey} {y = y} {x = x} p c l e = any-in p ax ex ay ey x y (c .least) l (c .low) (c .high) e

@@ -1,0 +1,44 @@
+-- Demand 3, the list's room: a shorter list holds the opening corners of a longer one, with the same total; entries beyond stay. Assumes nothing.
+use mathlib.Core.Path.{_≡_, refl, sym, ap, _∙_}
+use mathlib.Core.Bool.{Bool, true, false, cond}
+use Prim.Native.Nat.{ℕ, _*_, _/_, _≤_, min}
+use mathlib.Core.List.{List}
+use lib.ListN.{length, take, drop}
+use lib.Dec.{eqb, lit<}
+use lib.Ieee.{Float}
+use Rattle.grid.specs.Over.{written, shorter, past}
+use Rattle.params.specs.declared.RadonDetectorParams.{RadonDetectorParams}
+use Rattle.params.specs.declared.Outcome.{Outcome}
+use Rattle.params.specs.Answers.{numberOf, refused}
+use Rattle.detect.specs.Window.{value}
+use Rattle.detect.specs.Corners.{numbers, stride}
+use Rattle.detect.specs.Detected.{refusalFor, foundIn, fullOr, outcomeOf, listOf}
+use Rattle.detect.specs.Scan.{numbers-long}
+use Rattle.detect.proofs.HigherSettings.{accepted-list}
+
+module _ (s : RadonDetectorParams) (w h : ℕ) (resp : List Float) (image : List ℕ) where
+  -- how many entries of a list of this length are written
+  abbrev pub writtenLength : ℕ → ℕ
+  writtenLength len = stride * min (length (foundIn s w h resp image)) (len / stride)
+
+  abbrev done : ℕ → Outcome
+  done len = record { answer = fullOr (length (foundIn s w h resp image)) (len / stride); count = length (foundIn s w h resp image); w = w; h = h }
+
+  -- the total does not depend on the room
+  pub same-total : (a b : ℕ) → (outcomeOf s w h resp image a) .count ≡ (outcomeOf s w h resp image b) .count
+  unfolding outcomeOf
+  same-total a b = go (eqb (numberOf (refusalFor s w h resp image)) 0)
+    where
+      go : (t : Bool) → (cond t (done a) (refused (refusalFor s w h resp image))) .count ≡ (cond t (done b) (refused (refusalFor s w h resp image))) .count
+      go true = refl
+      go false = refl
+
+  module _ (short : List Float) (accepted : numberOf (refusalFor s w h resp image) ≡ 0) where
+    pub shorter-list : (long : List Float) → length short ≤ length long
+        → take (writtenLength (length short)) (listOf s w h resp image short) ≡ take (writtenLength (length short)) (listOf s w h resp image long)
+    shorter-list long l =
+        rw (accepted-list s w h resp image short accepted, accepted-list s w h resp image long accepted)
+        (shorter stride (numbers s (value resp w)) (numbers-long s (value resp w)) (foundIn s w h resp image) short long (lit< tt) l)
+
+    pub beyond : drop (writtenLength (length short)) (listOf s w h resp image short) ≡ drop (writtenLength (length short)) short
+    beyond = rw (accepted-list s w h resp image short accepted) (past stride (numbers s (value resp w)) (numbers-long s (value resp w)) (foundIn s w h resp image) short)

@@ -1,0 +1,136 @@
+use mathlib.Core.Path.{_≡_, refl, sym, ap, _∙_}
+use Prim.Native.Nat.{ℕ, _+_, _-_, _*_, _≤_, _<_}
+use native.Mathlib.Omega.{arith}
+use mathlib.Core.Logic.{inl, inr}
+use lib.ListN.{length}
+use Rattle.grid.specs.Plane.{row-in}
+use Rattle.grid.specs.Ways.{pixel}
+use Rattle.detect.specs.Window.{value}
+use Rattle.detect.specs.Corners.{borderOf, isKept}
+use Rattle.detect.specs.Scan.{Scanned, scan-none, scan-all, Candidate, near-room, row-length, run-over, turn-no, turn-full, turn-put, nearer}
+use Rattle.detect.proofs.peaks.find_in_row.Statement.{statement}
+use Rattle.detect.proofs.peaks.find_in_row.Tie as tie
+
+abbrev Inv-loop : tie.InvT-loop
+Inv-loop resp image w h params t floor y n list₀ room b ex a e row count₀ x₀ list count x =
+    Scanned params floor w h (value resp w) (pixel image w) y list₀ n list count x
+
+abbrev μ-loop : tie.MeasureT-loop
+μ-loop resp image w h params t floor y n list₀ room b ex a e row count₀ x₀ list count x = ex - x
+
+-- row y ends within the map
+fits : (c : tie.Start Inv-loop μ-loop) → c .args .y * c .args .w + c .args .w ≤ length (c .args .resp .now)
+fits c =
+    let b : c .args .y < c .args .h = omega arith in
+    omega (arith, row-in (c .args .w) b)
+
+border-requires : tie.Need-border-requires Inv-loop μ-loop
+border-requires c κs = tt
+
+sub-ex : tie.Need-sub-ex Inv-loop μ-loop
+sub-ex c = omega (arith, fits (c .before .before .before .before))
+
+mul-a : tie.Need-mul-a Inv-loop μ-loop
+mul-a c = omega (arith, fits (c .before .before .before .before))
+
+add-e : tie.Need-add-e Inv-loop μ-loop
+add-e c = omega (arith, fits (c .before .before .before .before))
+
+mul-row : tie.Need-mul-row Inv-loop μ-loop
+mul-row c = omega (arith, fits (c .before .before .before .before))
+
+sub-row : tie.Need-sub-row Inv-loop μ-loop
+sub-row c = omega (arith, fits (c .before .before .before .before))
+
+part-row-start : tie.Need-part-row-start Inv-loop μ-loop
+part-row-start c = omega (arith, fits (c .before .before .before .before))
+
+part-row-end : tie.Need-part-row-end Inv-loop μ-loop
+part-row-end c = omega (arith, fits (c .before .before .before .before))
+
+next-above-requires : tie.Need-next-above-requires Inv-loop μ-loop
+next-above-requires c κs = omega (arith, row-length (c .before .before .before .before .before .args .resp .now) (c .before .before .before .before .before .args .w) (c .before .before .before .before .before .args .y) (c .before .border .result) (fits (c .before .before .before .before .before)))
+
+loop-holds : tie.Need-loop-holds Inv-loop μ-loop
+loop-holds c =
+    let o = c .before .before .before .before .before .before in
+    let b = c .before .before .border in
+    run-over (o .args .resp .now) (o .args .w) (o .args .y) (b .result) (fits o) (scan-none _ _ _ _ _ _ _ _ _ (o .pre .wider) (o .pre .above) (o .pre .below)) (b .ensures) (b .ensures) (c .next-above .ensures)
+
+-- the place is a candidate
+candidate : (c : tie.In-loop Inv-loop μ-loop) → Candidate (c .before .before .before .before .before .before .before .before .args .params) (c .before .before .before .before .before .before .before .before .args .t) (c .before .before .before .before .before .before .before .before .args .w) (c .before .before .before .before .before .before .before .before .args .h) (c .before .loop .x) (c .before .before .before .before .before .before .before .before .args .y) (length (c .before .before .before .before .before .before .before .before .args .resp .now)) (length (c .before .before .before .before .before .before .before .before .args .image .now))
+candidate c = record { judging = c .before .before .before .before .before .before .before .before .pre .judging; left = omega arith; right = omega arith; above = omega arith; below = omega arith }
+
+judge-at-requires : tie.Need-judge-at-requires Inv-loop μ-loop
+judge-at-requires c κs = candidate c
+
+is-kept-requires : tie.Need-is-kept-requires Inv-loop μ-loop
+is-kept-requires c κs = tt
+
+put-corner-requires : tie.Need-put-corner-requires Inv-loop μ-loop
+put-corner-requires c κs = (near-room (candidate (c .before .before .before .before .before)), rw (c .before .before .before .before .before .before .loop .inv .across .holds .same) (c .before .if2 .taken))
+
+add-count : tie.Need-add-count Inv-loop μ-loop
+add-count c = omega arith
+
+add-next-above : tie.Need-add-next-above Inv-loop μ-loop
+add-next-above c = omega arith
+
+next-above-requires-2 : tie.Need-next-above-requires-2 Inv-loop μ-loop
+next-above-requires-2 c κs = omega (arith, row-length (c .before .before .before .before .before .before .before .before .before .before .before .args .resp .now) (c .before .before .before .before .before .before .before .before .before .before .before .args .w) (c .before .before .before .before .before .before .before .before .before .before .before .args .y) (c .before .before .before .before .before .before .before .border .result) (fits (c .before .before .before .before .before .before .before .before .before .before .before)))
+
+loop-less : tie.Need-loop-less Inv-loop μ-loop
+loop-less c = nearer _ _ _ (c .before .before .before .before .loop-test .taken) (c .next-above2 .ensures .least)
+
+-- a turn, before the search goes on
+turned : (c : tie.After-next-above2 Inv-loop μ-loop) →
+    Scanned (c .before .before .before .before .before .before .before .before .before .before .before .before .args .params) (c .before .before .before .before .before .before .before .before .before .before .before .before .args .floor) (c .before .before .before .before .before .before .before .before .before .before .before .before .args .w) (c .before .before .before .before .before .before .before .before .before .before .before .before .args .h) (value (c .before .before .before .before .before .before .before .before .before .before .before .before .args .resp .now) (c .before .before .before .before .before .before .before .before .before .before .before .before .args .w)) (pixel (c .before .before .before .before .before .before .before .before .before .before .before .before .args .image .now) (c .before .before .before .before .before .before .before .before .before .before .before .before .args .w)) (c .before .before .before .before .before .before .before .before .before .before .before .before .args .y) (c .before .before .before .before .before .before .before .before .before .before .before .before .args .list .now) (c .before .before .before .before .before .before .before .before .before .before .before .before .args .n) (c .before .if1 .list) (c .before .if1 .count) (c .before .before .before .before .before .loop .x + 1)
+turned c =
+    let l = c .before .before .before .before .before .loop in
+    let e = ap isKept (sym (c .before .before .before .judge-at .ensures)) ∙ sym (c .before .before .is-kept .ensures) in
+    let u : l .x < c .before .before .before .before .before .before .before .before .before .before .before .before .args .w - borderOf (c .before .before .before .before .before .before .before .before .before .before .before .before .args .params) = omega arith in
+    elim (c .before .if1 .came) [
+      | inl k ↦ elim (k .1 .came) [
+        | inl j ↦ turn-put (l .inv) u (e ∙ k .0 .taken) (j .0 .taken) (k .2 ∙ j .5 ∙ j .2 .ensures) (k .3)
+        | inr j ↦ turn-full (l .inv) u (e ∙ k .0 .taken) (j .0 .left) (k .2 ∙ j .1) (k .3)
+      ]
+      | inr k ↦ turn-no (l .inv) u (e ∙ k .0 .left) (k .1) (k .2)
+    ]
+
+loop-again : tie.Need-loop-again Inv-loop μ-loop
+loop-again c =
+    let b = c .before .before .before .before .before .before .before .before .border in
+    run-over (c .before .before .before .before .before .before .before .before .before .before .before .before .args .resp .now) (c .before .before .before .before .before .before .before .before .before .before .before .before .args .w) (c .before .before .before .before .before .before .before .before .before .before .before .before .args .y) (b .result) (fits (c .before .before .before .before .before .before .before .before .before .before .before .before)) (turned c) (b .ensures) refl (c .next-above2 .ensures)
+
+same-length : tie.Need-same-length Inv-loop μ-loop
+same-length c = c .before .loop .inv .across .holds .same
+
+returns : tie.Need-returns Inv-loop μ-loop
+returns c = scan-all (c .before .loop .inv) (omega arith)
+
+pub find-in-row-spec : {M : Type 1} → statement M
+find-in-row-spec =
+    tie.close
+    (tie.spec
+    Inv-loop
+    μ-loop
+    border-requires
+    sub-ex
+    mul-a
+    add-e
+    mul-row
+    sub-row
+    part-row-start
+    part-row-end
+    next-above-requires
+    loop-holds
+    judge-at-requires
+    is-kept-requires
+    put-corner-requires
+    add-count
+    add-next-above
+    next-above-requires-2
+    loop-less
+    loop-again
+    same-length
+    returns)

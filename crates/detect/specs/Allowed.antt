@@ -1,0 +1,65 @@
+-- What a call that is not refused has passed, and what it answers: the steps behind `detect_peaks_from_radon`. Assumes nothing.
+use mathlib.Core.Path.{_≡_, refl, sym, ap, _∙_}
+use mathlib.Core.Bool.{Bool, true, false, _||_}
+use Prim.Native.Nat.{ℕ, _*_, _/_, _≤_, min}
+use native.Mathlib.Omega.{arith}
+use borrow.Author.Tests.{ltb-false, eq-eqb, ne-eqb}
+use mathlib.Core.List.{List}
+use lib.ListN.{length}
+use lib.Dec.{ltb, eqb}
+use lib.Ieee.{Float}
+use Rattle.grid.specs.Over.{written}
+use Rattle.params.specs.declared.Answer.{Answer}
+use Rattle.params.specs.declared.Answer.the-variants.{Complete, SideTooLong, TooManyPixels}
+use Rattle.params.specs.declared.Outcome.{Outcome}
+use Rattle.params.specs.declared.RadonDetectorParams.{RadonDetectorParams}
+use Rattle.params.specs.Answers.{numberOf, refused}
+use Rattle.params.specs.Refusals.{pick, orElse, mapRefusal, listRefusal, roomRefusal}
+use Rattle.params.specs.Accepted.{both-pass, map-passes, list-passes, room-passes}
+use Rattle.detect.specs.Window.{value}
+use Rattle.detect.specs.Corners.{numbers, stride}
+use Rattle.detect.specs.Detected.{workingRefusal, peaksRefusal, refusalFor, foundIn, fullOr, outcomeOf, listOf}
+use Rattle.detect.specs.Scan.{Asked}
+
+passed : (p q t : Bool) → numberOf (pick (p || q) SideTooLong (pick t TooManyPixels Complete)) ≡ 0 → (p ≡ false) × (q ≡ false)
+passed true q t e = absurd (omega arith)
+passed false true t e = absurd (omega arith)
+passed false false t e = (refl, refl)
+
+pub working-passes : (w h : ℕ) → numberOf (workingRefusal w h) ≡ 0 → (w ≤ 8192) × (h ≤ 8192)
+unfolding workingRefusal
+working-passes w h e =
+    let a = passed (ltb 8192 w) (ltb 8192 h) (ltb 8388608 (w * h)) e in
+    (ltb-false 8192 w (a .0), ltb-false 8192 h (a .1))
+
+pub asked : (s : RadonDetectorParams) (w h a b : ℕ) → numberOf (peaksRefusal w h s (min a b)) ≡ 0 → Asked s w h a b
+unfolding peaksRefusal
+asked s w h a b e =
+    let x = both-pass (workingRefusal w h) (orElse (mapRefusal s) (orElse (listRefusal s) (roomRefusal (w * h) (min a b)))) e in
+    let y = both-pass (mapRefusal s) (orElse (listRefusal s) (roomRefusal (w * h) (min a b))) (x .1) in
+    let z = both-pass (listRefusal s) (roomRefusal (w * h) (min a b)) (y .1) in
+    let size = working-passes w h (x .0) in
+    let map = map-passes s (y .0) in
+    let list = list-passes s (z .0) in
+    let room = room-passes (w * h) (min a b) (z .1) in
+    record { wide = size .0; high = size .1; ray = map .ray; suppression = list .suppression; response = omega arith; working = omega arith }
+
+-- ---- the two ends of a call, from the answer a of the judge and its number n
+
+module _ (s : RadonDetectorParams) (w h : ℕ) (resp : List Float) (image : List ℕ) (old : List Float) {a : Answer} {n : ℕ} (is : a ≡ refusalFor s w h resp image) (number : n ≡ numberOf a) where
+  pub refuses : {r : Outcome} → (n ≡ 0 → ⊥) → r ≡ refused a → (r ≡ outcomeOf s w h resp image (length old)) × (old ≡ listOf s w h resp image old)
+  unfolding outcomeOf listOf
+  refuses z e =
+      let q : eqb (numberOf (refusalFor s w h resp image)) 0 ≡ false = ne-eqb _ 0 (λ u. z (number ∙ ap numberOf is ∙ u)) in
+      rw q (e ∙ ap refused is, refl)
+
+  pub passes-on : n ≡ 0 → Asked s w h (length resp) (length image)
+  passes-on z = asked s w h (length resp) (length image) (ap numberOf (sym is) ∙ sym number ∙ z)
+
+  pub answers : {found : ℕ} {out : List Float} {r : Answer} → n ≡ 0 → found ≡ length (foundIn s w h resp image)
+      → out ≡ written stride (numbers s (value resp w)) (foundIn s w h resp image) old → r ≡ fullOr found (length old / stride)
+      → (_≡_ {A = Outcome} (record { answer = r; count = found; w = w; h = h }) (outcomeOf s w h resp image (length old))) × (out ≡ listOf s w h resp image old)
+  unfolding outcomeOf listOf
+  answers z c o e =
+      let q : eqb (numberOf (refusalFor s w h resp image)) 0 ≡ true = eq-eqb _ 0 (ap numberOf (sym is) ∙ sym number ∙ z) in
+      rw q (rw (e, c), o)

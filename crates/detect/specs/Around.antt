@@ -1,0 +1,25 @@
+-- What the private functions of the saddle test hand each other. Assumes nothing.
+use mathlib.Core.Path.{_≡_}
+use mathlib.Core.Bool.{_&&_, cond}
+use Prim.Native.Nat.{ℕ, _+_, _-_, _*_, _≤_, _<_}
+use lib.Dec.{leb}
+use lib.Ieee.{Float, lt, neg}
+use Rattle.float.specs.Values.{f0}
+use Rattle.grid.specs.Rect.{place}
+use Rattle.grid.specs.Ways.{Inside}
+use Rattle.detect.specs.Saddle.{side, inDisk}
+
+-- the disk's part of row y is the columns from k - r to k + r
+pub record Reaches (k y r : ℕ) : Type 0 where
+  pub most : r ≤ k
+  pub is : (x : ℕ) → x < side k → inDisk k (place x y) ≡ (leb (k - r) x && leb x (k + r))
+
+-- the square around x, y is in an image w wide and h high that has n pixels or fewer
+pub record Around (k n w h x y : ℕ) : Type 0 where
+  pub small : k ≤ 7
+  pub inside : Inside w h k x y
+  pub room : w * h ≤ n
+
+-- x without its sign, but that -0 keeps it, which no comparison sees
+abbrev pub signless : Float → Float
+signless x = cond (lt x f0) (neg x) x

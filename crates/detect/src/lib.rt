@@ -1,0 +1,98 @@
+// The list: which pixels of the map are corners, and where between the pixels each one lies.
+mod above;
+mod neighbors;
+mod peak_fit;
+mod peaks;
+mod saddle;
+mod verdict;
+
+use params::Answer;
+use params::Outcome;
+use params::RadonDetectorParams;
+use peaks::find_peaks;
+ghost use mathlib.Core.Path.{_≡_};
+ghost use Prim.Native.Nat.{_/_, min};
+ghost use lib.ListN.{length};
+ghost use Rattle.detect.specs.Corners.{stride};
+ghost use Rattle.detect.specs.Detected.{workingRefusal, peaksRefusal, fullOr, outcomeOf, listOf};
+
+// Twice the input's longest side.
+const MAX_WORKING_SIDE: usize = 8192;
+
+const MAX_WORKING_PIXELS: usize = 8388608;
+
+// Answers 2 and 4, for a working size.
+fn judge_working(w: usize, h: usize) -> Answer
+    ensures { λ r. ⌜ r ≡ workingRefusal w h ⌝ }
+{
+    if w > MAX_WORKING_SIDE {
+        return Answer::SideTooLong;
+    }
+    if h > MAX_WORKING_SIDE {
+        return Answer::SideTooLong;
+    }
+    if w * h > MAX_WORKING_PIXELS {
+        return Answer::TooManyPixels;
+    }
+    Answer::Complete
+}
+
+// The lowest answer that applies: `room` is the length of the shorter of the two buffers.
+fn judge(w: usize, h: usize, params: RadonDetectorParams, room: usize) -> Answer
+    ensures { λ r. ⌜ r ≡ peaksRefusal w h params room ⌝ }
+{
+    let size = judge_working(w, h);
+    if size.number() != 0 {
+        return size;
+    }
+    let map = params::judge_map(params);
+    if map.number() != 0 {
+        return map;
+    }
+    let list = params::judge_list(params);
+    if list.number() != 0 {
+        return list;
+    }
+    params::judge_room(w * h, room)
+}
+
+fn shorter(a: usize, b: usize) -> usize
+    ensures { λ r. ⌜ r ≡ min a b ⌝ }
+{
+    if a < b { a } else { b }
+}
+
+// Whether all of the corners found have room in a list of `len` numbers.
+fn full_or(found: usize, len: usize) -> Answer
+    ensures { λ r. ⌜ r ≡ fullOr found (len / stride) ⌝ }
+{
+    if found <= len / 3 {
+        return Answer::Complete;
+    }
+    Answer::ListFull
+}
+
+// The corners of a response map over its working image, both w wide and h high, three numbers a corner: x and y in input pixels, strength.
+pub fn detect_peaks_from_radon(
+    response: &[f32],
+    image: &[u8],
+    w: usize,
+    h: usize,
+    params: RadonDetectorParams,
+    list: &mut [f32],
+) -> Outcome
+    ensures answer { λ r. ⌜ r ≡ outcomeOf params w h (now (response .entry)) (now (image .entry)) (length (now (list .entry))) ⌝ }
+    ensures written { λ _. ⌜ now (list .exit) ≡ listOf params w h (now (response .entry)) (now (image .entry)) (now (list .entry)) ⌝ }
+{
+    let refusal = judge(w, h, params, shorter(response.len(), image.len()));
+    if refusal.number() != 0 {
+        return Outcome::refusal(refusal);
+    }
+    let count = find_peaks(response, image, w, h, params, list);
+    Outcome {
+        answer: full_or(count, list.len()),
+        count,
+        w,
+        h,
+    }
+}

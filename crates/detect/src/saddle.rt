@@ -1,0 +1,225 @@
+// The saddle test on the working image: a quadric is fitted by least squares over a disk of pixels, and its two curvatures are compared.
+ghost use mathlib.Core.Path.{_≡_};
+ghost use Prim.Native.Nat.{_≤_, _<_};
+ghost use lib.ListN.{length};
+ghost use Rattle.grid.specs.Ways.{pixel};
+ghost use Rattle.detect.specs.Saddle.{side, apart, offset, momentsOf, normsOf, saddleOf, sumsOf, verdict, judge, saddleAt};
+ghost use Rattle.detect.specs.Around.{Reaches, Around, signless};
+use scalar::Root;
+
+// What a radius fixes: the mean of the squared distance over the disk, and 1 over the norms of r² - mean, of x² - y² and of xy.
+pub struct SaddleTest {
+    pub mean_r2: f32,
+    pub inv_u: f32,
+    pub inv_v: f32,
+    pub inv_xy: f32,
+}
+
+pub enum Saddle {
+    Yes,
+    Flat,
+    Curved,
+}
+
+// How many places a disk has, and their squared distances added up.
+struct Moments {
+    n: f32,
+    r2: f32,
+}
+
+// The image projected on r² - mean, x² - y² and xy; or the norms of these.
+struct Sums {
+    u: f32,
+    v: f32,
+    xy: f32,
+}
+
+// Smallest ratio of the two curvatures, which have opposite signs.
+const MIN_SADDLE_RATIO: f32 = 0.2;
+
+// Smallest difference of the two curvatures, times the squared radius: one gray level.
+const MIN_SADDLE_SPREAD: f32 = 1.0;
+
+// How far a row reaches to either side of the middle column: row k, entry d for the rows d away from the middle one, in the disk of radius k.
+const REACH: [[usize; 8]; 8] = [
+    [0, 0, 0, 0, 0, 0, 0, 0],
+    [1, 1, 0, 0, 0, 0, 0, 0],
+    [2, 1, 0, 0, 0, 0, 0, 0],
+    [3, 2, 2, 0, 0, 0, 0, 0],
+    [4, 3, 3, 2, 0, 0, 0, 0],
+    [5, 4, 4, 4, 3, 0, 0, 0],
+    [6, 5, 5, 5, 4, 3, 0, 0],
+    [7, 6, 6, 6, 5, 4, 3, 0],
+];
+
+fn distance(i: usize, k: usize) -> usize
+    ensures { λ r. ⌜ r ≡ apart i k ⌝ }
+{
+    if i < k {
+        return k - i;
+    }
+    i - k
+}
+
+fn reach(k: usize, iy: usize) -> usize
+    requires { ⌜ (k ≤ 7) × (iy < side k) ⌝ }
+    ensures { λ r. ⌜ Reaches k iy r ⌝ }
+{
+    REACH[k][distance(iy, k)]
+}
+
+fn offset_of(k: usize, i: usize) -> f32
+    requires { ⌜ (k ≤ 7) × (i < side k) ⌝ }
+    ensures { λ r. ⌜ r ≡ offset k i ⌝ }
+{
+    ((i as u16) as f32) - ((k as u16) as f32)
+}
+
+fn disk_moments(k: usize) -> Moments
+    requires { ⌜ k ≤ 7 ⌝ }
+    ensures { λ r. ⌜ r ≡ momentsOf k ⌝ }
+{
+    let rows = 2 * k + 1;
+    let mut s = Moments { n: 0.0, r2: 0.0 };
+    for iy in 0..rows {
+        let far = reach(k, iy);
+        let dy = offset_of(k, iy);
+        let first = k - far;
+        let end = k + far + 1;
+        for ix in first..end {
+            let dx = offset_of(k, ix);
+            s = Moments {
+                n: s.n + 1.0,
+                r2: s.r2 + (dx * dx + dy * dy),
+            };
+        }
+    }
+    s
+}
+
+fn disk_norms(mean: f32, k: usize) -> Sums
+    requires { ⌜ k ≤ 7 ⌝ }
+    ensures { λ r. ⌜ r ≡ normsOf mean k ⌝ }
+{
+    let rows = 2 * k + 1;
+    let mut s = Sums {
+        u: 0.0,
+        v: 0.0,
+        xy: 0.0,
+    };
+    for iy in 0..rows {
+        let far = reach(k, iy);
+        let dy = offset_of(k, iy);
+        let first = k - far;
+        let end = k + far + 1;
+        for ix in first..end {
+            let dx = offset_of(k, ix);
+            let u = dx * dx + dy * dy - mean;
+            let v = dx * dx - dy * dy;
+            s = Sums {
+                u: s.u + u * u,
+                v: s.v + v * v,
+                xy: s.xy + dx * dx * dy * dy,
+            };
+        }
+    }
+    s
+}
+
+// The test of radius k: built once, and passed by value.
+pub fn new(k: usize) -> SaddleTest
+    requires { ⌜ (1 ≤ k) × (k ≤ 7) ⌝ }
+    ensures { λ r. ⌜ r ≡ saddleOf k ⌝ }
+{
+    let m = disk_moments(k);
+    let mean_r2 = m.r2 / m.n;
+    let n = disk_norms(mean_r2, k);
+    SaddleTest {
+        mean_r2,
+        inv_u: 1.0 / n.u,
+        inv_v: 1.0 / n.v,
+        inv_xy: 1.0 / n.xy,
+    }
+}
+
+fn project(t: SaddleTest, k: usize, image: &[u8], w: usize, h: usize, x: usize, y: usize) -> Sums
+    requires { ⌜ Around k (length (now image)) w h x y ⌝ }
+    ensures { λ r. ⌜ r ≡ sumsOf t k (pixel (now (image .entry)) w) x y ⌝ }
+{
+    let rows = 2 * k + 1;
+    let mut s = Sums {
+        u: 0.0,
+        v: 0.0,
+        xy: 0.0,
+    };
+    for iy in 0..rows {
+        let far = reach(k, iy);
+        let dy = offset_of(k, iy);
+        let row = (y - k + iy) * w + (x - k);
+        let first = k - far;
+        let end = k + far + 1;
+        for ix in first..end {
+            let dx = offset_of(k, ix);
+            let i = image[row + ix] as f32;
+            s = Sums {
+                u: s.u + (dx * dx + dy * dy - t.mean_r2) * i,
+                v: s.v + (dx * dx - dy * dy) * i,
+                xy: s.xy + dx * dy * i,
+            };
+        }
+    }
+    s
+}
+
+fn size(x: f32) -> f32
+    ensures { λ r. ⌜ r ≡ signless x ⌝ }
+{
+    if x < 0.0 {
+        return -x;
+    }
+    x
+}
+
+fn compared(k: usize, tr: f32, spread: f32) -> Saddle
+    requires { ⌜ k ≤ 7 ⌝ }
+    ensures { λ r. ⌜ r ≡ verdict k tr spread ⌝ }
+{
+    let kk = (k * k) as u16 as f32;
+    if spread * kk >= MIN_SADDLE_SPREAD {
+        if size(tr) * (1.0 + MIN_SADDLE_RATIO) <= spread * (1.0 - MIN_SADDLE_RATIO) {
+            return Saddle::Yes;
+        }
+        return Saddle::Curved;
+    }
+    Saddle::Flat
+}
+
+fn judged(t: SaddleTest, k: usize, s: Sums) -> Saddle
+    requires { ⌜ k ≤ 7 ⌝ }
+    ensures { λ r. ⌜ r ≡ judge t k s ⌝ }
+{
+    let p = s.u * t.inv_u;
+    let q = s.v * t.inv_v;
+    let b = s.xy * t.inv_xy;
+    let tr = 4.0 * p;
+    match scalar::sqrt(16.0 * q * q + 4.0 * b * b) {
+        Root::Value(spread) => compared(k, tr, spread),
+        Root::Outside => Saddle::Flat,
+    }
+}
+
+// Whether the image, w wide, is a saddle around x, y; the disk lies inside the image.
+pub fn accepts(
+    t: SaddleTest,
+    k: usize,
+    image: &[u8],
+    w: usize,
+    h: usize,
+    x: usize,
+    y: usize,
+) -> Saddle
+    requires { ⌜ Around k (length (now image)) w h x y ⌝ }
+    ensures { λ r. ⌜ r ≡ saddleAt t k (pixel (now (image .entry)) w) x y ⌝ }
+{
+    judged(t, k, project(t, k, image, w, h, x, y))
+}
