@@ -75,7 +75,6 @@ fn published(core: &Path, name: &str) -> PathBuf {
 
 fn main() {
     println!("cargo:rerun-if-env-changed={VARIABLE}");
-    println!("cargo:rerun-if-changed=build.rs");
     let core = checkout().join(CORE);
     let tree = FILES.iter().fold(TREE.to_string(), |tree, (mark, name)| {
         let path = published(&core, name);

@@ -1,17 +1,17 @@
 -- The fit is the Rust's, with our guards and our logarithm: on numbers `clamped` is the Rust's `clamp(-0.5, 0.5)`, and no NaN comes to it. Assumes nothing.
 use mathlib.Core.Path.{_≡_, refl, sym, subst}
 use mathlib.Core.Bool.{Bool, true, false, not, cond, _&&_}
-use Prim.Native.Nat.{ℕ, _*_, _^_, _≤_, _<_}
+use Prim.Native.Nat.{ℕ, _*_, _^_, _≤_}
 use native.Mathlib.Nat.{zero-mul}
 use native.Mathlib.Omega.{arith}
 use borrow.Author.Tests.{eqb-true}
-use lib.Dec.{T, ltb, eqb, lit<, lit≤, lt→ltb, ltb→lt, not-T}
+use lib.Dec.{T, ltb, eqb, lit≤, lt→ltb, ltb→lt}
 use lib.IntN.{ℤ}
-use lib.Ieee.{Float, nan, inf, fin, up, down, binary32, fits, ofBits, isNan, add, sub, mul, div, lt, le}
+use lib.Ieee.{Float, nan, inf, fin, up, down, binary32, fits, ofBits, isNan, sub, mul, div, lt, le}
 use lib.Ieee.Fits.{and-l, and-r, down-pos}
 use Rattle.float.specs.Values.{f0}
 use Rattle.float.specs.Order.{le-lt-trans, le-of-not-lt}
-use Rattle.float.specs.Sized.{Small, small, sized, Held, held, small-mono, small-of-le, div-number, zeroFloat, add-small, sub-small, mul-small}
+use Rattle.float.specs.Sized.{Small, small, sized, small-mono, small-of-le, div-number, zeroFloat, add-small, sub-small, mul-small}
 use Rattle.params.specs.declared.PeakFitMode.{PeakFitMode}
 use Rattle.params.specs.declared.PeakFitMode.the-variants.{Parabolic, Gaussian}
 use Rattle.scalar.specs.Log.{logOf, terms, high}
@@ -20,6 +20,7 @@ use Rattle.scalar.specs.declared.Log.the-variants.{Value, Outside}
 use Rattle.scalar.proofs.Close.{AtMost}
 use Rattle.scalar.proofs.Facts.{log-size}
 use Rattle.detect.specs.PeakFit.{f2, half, minusHalf, flat, greatest, denominator, clamped, peakOf, peakOfThree, peakOfLogs, allAbove, byMode, usable, allUsable, fitOf}
+use Rattle.detect.proofs.Rooted.{power}
 
 -- ---- the clamp
 
@@ -86,9 +87,6 @@ not-zero (fin t n e) l = go (eqb n 0) refl
 no-truth : (b : Bool) → T (not b) → b ≡ false
 no-truth true t = absurd t
 no-truth false t = refl
-
-power : (j : ℕ) → j ≤ 100 → Held (1 * 2 ^ j)
-power j l = held 1 j (lit< tt) l
 
 constants : Small 2 f2 × Small 1 half
 unfolding ofBits

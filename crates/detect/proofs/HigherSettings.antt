@@ -2,7 +2,7 @@
 -- in order and bit for bit, for every map: values that are infinite or no number included. Assumes nothing.
 use mathlib.Core.Path.{_≡_, refl, sym, ap, _∙_}
 use mathlib.Core.Bool.{Bool, true, false, not, _&&_, and-false}
-use Prim.Native.Nat.{ℕ, _*_, _/_, _≤_, _<_}
+use Prim.Native.Nat.{ℕ, _*_, _/_, _≤_}
 use native.Mathlib.Omega.{arith}
 use borrow.Author.Tests.{eq-eqb}
 use mathlib.Core.List.{List}
@@ -18,14 +18,14 @@ use Rattle.grid.specs.Over.{written, opening}
 use Rattle.grid.specs.Ways.{pixel}
 use Rattle.params.specs.declared.RadonDetectorParams.{RadonDetectorParams}
 use Rattle.params.specs.Answers.{numberOf}
-use Rattle.params.specs.Refusals.{listRefusal, mapRefusal, roomRefusal, orElse}
+use Rattle.params.specs.Refusals.{listRefusal, mapRefusal}
 use Rattle.params.specs.Accepted.{ListPasses, both-pass, list-passes}
 use Rattle.detect.specs.declared.saddle.Saddle.{Saddle}
 use Rattle.detect.specs.declared.saddle.Saddle.the-variants.{Yes, Flat, Curved}
 use Rattle.detect.specs.Window.{at, value, beaten, positives}
 use Rattle.detect.specs.Corners.{borderOf, candidates, peak, floorOf, firstFailing, isSaddle, isKept, verdict, corners, numbers, stride}
 use Rattle.detect.specs.Detected.{workingRefusal, peaksRefusal, refusalFor, foundIn, listOf}
-use Rattle.detect.specs.Scan.{numbers-long}
+use Rattle.detect.proofs.Scanning.{numbers-long}
 use Rattle.detect.proofs.Kept.{peak-nonneg}
 
 -- the same settings with another fraction and another least count

@@ -1,20 +1,18 @@
 -- Facts of the list that a plain reading of the rules gives: the count is the number of candidates that are kept, equal plateau maxima are all kept,
 -- and the floor finds what the source's floor finds. Assumes nothing.
-use mathlib.Core.Path.{_≡_, refl, sym, ap, _∙_}
-use mathlib.Core.Bool.{Bool, true, false, not, cond}
+use mathlib.Core.Path.{_≡_, refl}
+use mathlib.Core.Bool.{Bool, true, false, cond}
 use Prim.Native.Nat.{ℕ, _+_, _-_, _*_, _/_, _%_, _≤_, _<_}
-use native.Mathlib.Omega.{arith}
 use borrow.Author.Tests.{eq-eqb}
-use mathlib.Core.List.{List, []}
-use lib.ListN.{length}
-use lib.Dec.{T, eqb, leb}
-use lib.Ieee.{Float, inf, lt, le, mul, binary32, ofBits}
+use mathlib.Core.List.{List}
+use lib.Dec.{T, leb}
+use lib.Ieee.{Float, inf, lt, le, ofBits}
 use Rattle.float.specs.Values.{f0, f1}
 use Rattle.float.specs.Order.{lt-le, le-lt-trans, lt-itself}
 use Rattle.float.specs.Product.{infinite-product, zero-product}
 use Rattle.grid.specs.Fold.{fold, fold-keeps}
 use Rattle.grid.specs.Plane.{plane}
-use Rattle.grid.specs.Each.{count, keep}
+use Rattle.grid.specs.Each.{count}
 use Rattle.grid.specs.Rect.{Place, place, any-rect-none}
 use Rattle.params.specs.declared.RadonDetectorParams.{RadonDetectorParams}
 use Rattle.params.specs.Answers.{numberOf}
@@ -22,7 +20,7 @@ use Rattle.detect.specs.declared.saddle.Saddle.the-variants.{Yes}
 use Rattle.detect.specs.declared.verdict.Verdict.the-variants.{NotAbove, Kept}
 use Rattle.detect.specs.Window.{at, value, beaten, positives}
 use Rattle.detect.specs.Corners.{borderOf, candidates, greater, peak, floorOf, isSaddle, isKept, verdict, corners}
-use Rattle.detect.specs.Detected.{refusalFor, foundIn, outcomeOf}
+use Rattle.detect.specs.Detected.{refusalFor, outcomeOf}
 use Rattle.grid.specs.Ways.{pixel}
 
 -- ---- the count

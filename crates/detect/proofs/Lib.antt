@@ -7,6 +7,11 @@ pub mod Disks
 pub mod Rooted
 pub mod Offsets
 pub mod AsRust
+pub mod Passing
+pub mod Windows
+pub mod Scanning
+pub mod Allowing
 pub mod Kept
 pub mod HigherSettings
 pub mod ShorterList
+pub mod Inside

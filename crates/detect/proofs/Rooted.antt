@@ -20,7 +20,7 @@ use Rattle.detect.specs.declared.saddle.Sums.{Sums}
 use Rattle.detect.specs.Saddle.{f4, f16, offset, disk, overDisk, noSums, added, around, sumsOf, saddleOf, squares, verdict, judge, saddleAt}
 
 -- 2 ^ j is a value of the format
-power : (j : ℕ) → j ≤ 100 → Held (1 * 2 ^ j)
+pub power : (j : ℕ) → j ≤ 100 → Held (1 * 2 ^ j)
 power j l = held 1 j (lit< tt) l
 
 -- ---- what a radius fixes: one test, computed for each

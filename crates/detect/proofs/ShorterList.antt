@@ -1,19 +1,19 @@
 -- Demand 3, the list's room: a shorter list holds the opening corners of a longer one, with the same total; entries beyond stay. Assumes nothing.
-use mathlib.Core.Path.{_≡_, refl, sym, ap, _∙_}
+use mathlib.Core.Path.{_≡_, refl}
 use mathlib.Core.Bool.{Bool, true, false, cond}
 use Prim.Native.Nat.{ℕ, _*_, _/_, _≤_, min}
 use mathlib.Core.List.{List}
 use lib.ListN.{length, take, drop}
 use lib.Dec.{eqb, lit<}
 use lib.Ieee.{Float}
-use Rattle.grid.specs.Over.{written, shorter, past}
+use Rattle.grid.specs.Over.{shorter, past}
 use Rattle.params.specs.declared.RadonDetectorParams.{RadonDetectorParams}
 use Rattle.params.specs.declared.Outcome.{Outcome}
 use Rattle.params.specs.Answers.{numberOf, refused}
 use Rattle.detect.specs.Window.{value}
 use Rattle.detect.specs.Corners.{numbers, stride}
 use Rattle.detect.specs.Detected.{refusalFor, foundIn, fullOr, outcomeOf, listOf}
-use Rattle.detect.specs.Scan.{numbers-long}
+use Rattle.detect.proofs.Scanning.{numbers-long}
 use Rattle.detect.proofs.HigherSettings.{accepted-list}
 
 module _ (s : RadonDetectorParams) (w h : ℕ) (resp : List Float) (image : List ℕ) where

@@ -1,15 +1,15 @@
 -- A product with |x| is compared as one with `signless x` is, though the two factors differ at -0. Assumes nothing.
-use mathlib.Core.Path.{_≡_, refl, sym, ap, _∙_}
+use mathlib.Core.Path.{_≡_, refl, sym, _∙_}
 use mathlib.Core.Bool.{Bool, true, false, cond, _&&_, _||_}
-use Prim.Native.Nat.{ℕ, _+_, _*_, _<_}
-use native.Mathlib.Nat.{zero-add, zero-mul, mul-one, mul-pos}
+use Prim.Native.Nat.{ℕ, _+_, _*_}
+use native.Mathlib.Nat.{zero-add, zero-mul, mul-pos}
 use native.Mathlib.Omega.{arith}
 use borrow.Author.Tests.{ltb-false, le-ltb}
 use lib.Dec.{ltb, eqb}
 use lib.IntN.{ℤ, pos}
-use lib.Ieee.{Float, nan, inf, fin, binary32, up, down, ofBits, unlike, round, neg, add, mul, lt, eq, le}
+use lib.Ieee.{Float, nan, inf, fin, binary32, up, down, ofBits, unlike, neg, add, mul, lt, eq, le}
 use lib.Ieee.Fits.{down-pos, up-pos}
-use Rattle.float.specs.Values.{f0, f1}
+use Rattle.float.specs.Values.{f1}
 use Rattle.float.specs.Order.{no-factor}
 use Rattle.float.specs.Product.{round-zero}
 use Rattle.detect.specs.Saddle.{ratio, magnitude}

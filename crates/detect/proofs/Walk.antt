@@ -1,12 +1,11 @@
 -- A walk over the disk a row at a time: `for iy in 0..side { for ix in first..end { .. } }`, where first and end are how far the row reaches, takes the
 -- disk's places in their order and no others. `Above` and `Within` are the invariants of the two loops, for any state and any step. Assumes nothing.
 use mathlib.Core.Path.{_≡_, refl, sym, ap, _∙_}
-use mathlib.Core.Bool.{Bool, true, false, _&&_}
+use mathlib.Core.Bool.{Bool, true, false}
 use mathlib.Core.List.{List, [], _∷_, _++_, append-assoc, append-nil, foldl, foldl-append}
 use Prim.Native.Nat.{ℕ, zero, suc, _+_, _-_, _*_, _≤_, _<_}
 use native.Mathlib.Omega.{arith}
 use borrow.Author.Tests.{le-leb, lt-leb}
-use lib.Dec.{leb}
 use lib.ListN.{getD}
 use lib.Ieee.{Float}
 use Rattle.grid.specs.Each.{each, each-append, keep, keep-none, keep-yes}

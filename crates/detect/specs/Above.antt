@@ -1,17 +1,10 @@
--- How values at or under a floor are passed over: the steps behind `next_above` and `max_response`. Assumes nothing.
-use mathlib.Core.Path.{_≡_, refl, sym, ap, _∙_}
-use mathlib.Core.Logic.{inl, inr}
-use mathlib.Core.Bool.{Bool, true, false, _||_, true≢false}
-use Prim.Native.Nat.{ℕ, zero, suc, _+_, _-_, _≤_, _<_}
-use native.Mathlib.Decide.{decLe}
-use native.Mathlib.Nat.{add-zero}
-use native.Mathlib.Omega.{arith}
+-- What `above` hands on: the first entry above a floor.
+use mathlib.Core.Path.{_≡_}
+use mathlib.Core.Bool.{Bool, true, false, _||_}
+use Prim.Native.Nat.{ℕ, _+_, _≤_, _<_}
 use mathlib.Core.List.{List}
-use lib.ListN.{getD, length}
+use lib.ListN.{getD}
 use lib.Ieee.{Float, nan, lt}
-use Rattle.float.specs.Values.{f0}
-use Rattle.grid.specs.Fold.{fold, fold-none, fold-on}
-use Rattle.detect.specs.Corners.{greater}
 
 abbrev pub entry : List Float → ℕ → Float
 entry s k = getD s k nan
@@ -28,104 +21,9 @@ eight p i = (((p i || p (i + 1)) || p (i + 2)) || p (i + 3)) || (((p (i + 4) || 
 abbrev pub None : (ℕ → Bool) → ℕ → ℕ → Type 0
 None p a e = (k : ℕ) → a ≤ k → k < e → p k ≡ false
 
--- the search has passed i
-pub record Passed (p : ℕ → Bool) (a e i : ℕ) : Type 0 where
-  pub least : a ≤ i
-  pub most : i ≤ e
-  pub none : None p a i
-
 -- r is the first from a on at which p holds, or e
 pub record Next (p : ℕ → Bool) (a e r : ℕ) : Type 0 where
   pub least : a ≤ r
   pub most : r ≤ e
   pub none : None p a r
   pub found : r < e → p r ≡ true
-
-nor : (a b : Bool) → (a || b) ≡ false → (a ≡ false) × (b ≡ false)
-nor true b h = absurd (true≢false h)
-nor false b h = (refl, h)
-
-module _ (p : ℕ → Bool) where
-  none-here : (a : ℕ) → None p a a
-  none-here a k h l = absurd (omega arith)
-
-  none-on : (a m e : ℕ) → None p a m → None p m e → None p a e
-  none-on a m e u v k h l = go (decLe m k)
-    where
-      go : Dec (m ≤ k) → p k ≡ false
-      go (yes b) = v k b l
-      go (no b) = u k h (omega arith)
-
-  none-one : (i j : ℕ) → j ≡ i + 1 → p i ≡ false → None p i j
-  none-one i j q h k a b =
-      let e : k ≡ i = omega arith in
-      rw e h
-
-  none-eight : (i : ℕ) → eight p i ≡ false → None p i (i + 8)
-  none-eight i h =
-      let u = nor _ _ h in
-      let a = nor _ _ (u .0) in
-      let b = nor _ _ (a .0) in
-      let d = nor _ _ (b .0) in
-      let e = nor _ _ (u .1) in
-      let f = nor _ _ (e .0) in
-      let g = nor _ _ (f .0) in
-      none-on i (i + 1) (i + 8) (none-one i _ refl (d .0))
-      (none-on (i + 1) (i + 2) (i + 8) (none-one (i + 1) _ (omega arith) (d .1))
-      (none-on (i + 2) (i + 3) (i + 8) (none-one (i + 2) _ (omega arith) (b .1))
-      (none-on (i + 3) (i + 4) (i + 8) (none-one (i + 3) _ (omega arith) (a .1))
-      (none-on (i + 4) (i + 5) (i + 8) (none-one (i + 4) _ (omega arith) (g .0))
-      (none-on (i + 5) (i + 6) (i + 8) (none-one (i + 5) _ (omega arith) (g .1))
-      (none-on (i + 6) (i + 7) (i + 8) (none-one (i + 6) _ (omega arith) (f .1))
-      (none-one (i + 7) _ (omega arith) (e .1))))))))
-
-module _ (p : ℕ → Bool) (a e : ℕ) where
-  pub passed-none : a ≤ e → Passed p a e a
-  passed-none h = record { least = omega arith; most = h; none = none-here p a }
-
-  pub passed-one : {i : ℕ} → Passed p a e i → i < e → p i ≡ false → Passed p a e (i + 1)
-  passed-one {i} r b t = record { least = omega arith; most = omega arith; none = none-on p a i (i + 1) (r .none) (none-one p i (i + 1) refl t) }
-
-  pub passed-eight : {i : ℕ} → Passed p a e i → i + 8 ≤ e → eight p i ≡ false → Passed p a e (i + 8)
-  passed-eight {i} r b t = record { least = omega arith; most = b; none = none-on p a i (i + 8) (r .none) (none-eight p i t) }
-
-  pub next-found : {i : ℕ} → Passed p a e i → i < e → p i ≡ true → Next p a e i
-  next-found r b t = record { least = r .least; most = r .most; none = r .none; found = λ _. t }
-
-  pub next-none : {i : ℕ} → Passed p a e i → e ≤ i → Next p a e e
-  next-none {i} r b = record { least = omega arith; most = omega arith; none = λ k u v. r .none k u (omega arith); found = λ q. absurd (omega arith) }
-
--- ---- the greatest so far
-
--- m is the greatest of the entries below i, and the entry at i, if there is one, is greater
-pub record Leads (f : ℕ → Float) (n i : ℕ) (m : Float) : Type 0 where
-  pub most : i ≤ n
-  pub is : m ≡ fold greater f0 f i
-  pub next : i < n → lt m (f i) ≡ true
-
-module _ (f : ℕ → Float) where
-  -- values that are not greater change nothing
-  same : (d n : ℕ) {m : Float} → m ≡ fold greater f0 f n → None (λ k. lt m (f k)) n (n + d) → m ≡ fold greater f0 f (n + d)
-  same zero n {m} h u = rw add-zero h
-  same (suc d) n {m} h u =
-      let t : lt m (f (n + d)) ≡ false = u (n + d) (omega arith) (omega arith) in
-      sym (rw t) ∙ fold-on greater f0 f (n + d) (n + suc d) (omega arith) refl (same d n h (λ k a b. u k a (omega arith)))
-
-  passing : {a i n : ℕ} {m : Float} → m ≡ fold greater f0 f a → Next (λ k. lt m (f k)) a n i → Leads f n i m
-  passing {a} {i} {n} {m} h r =
-      let e : a + (i - a) ≡ i = omega arith in
-      record { most = r .most; is = rw e at (same (i - a) a h (λ k b c. r .none k b (omega arith))); next = r .found }
-
-  pub leads-none : {n i : ℕ} → Next (λ k. lt f0 (f k)) 0 n i → Leads f n i f0
-  leads-none r = passing (fold-none greater f0 f 0 refl) r
-
-  -- it takes the place of the greatest
-  pub leads-more : {n i j : ℕ} {m : Float} → Leads f n i m → i < n → Next (λ k. lt (f i) (f k)) (i + 1) n j → Leads f n j (f i)
-  leads-more {i = i} {m = m} l b r =
-      let t : lt m (f i) ≡ true = l .next b in
-      passing (sym (rw t) ∙ fold-on greater f0 f i (i + 1) refl refl (l .is)) r
-
-  pub leads-all : {n i : ℕ} {m : Float} → Leads f n i m → n ≤ i → m ≡ fold greater f0 f n
-  leads-all {n} {i} l b =
-      let e : i ≡ n = omega arith in
-      rw e at (l .is)

@@ -1,20 +1,24 @@
 -- What the private functions of the saddle test hand each other. Assumes nothing.
 use mathlib.Core.Path.{_≡_}
 use mathlib.Core.Bool.{_&&_, cond}
-use Prim.Native.Nat.{ℕ, _+_, _-_, _*_, _≤_, _<_}
+use Prim.Native.Nat.{ℕ, _+_, _-_, _*_, _/_, _%_, _^_, _≤_, _<_}
 use lib.Dec.{leb}
 use lib.Ieee.{Float, lt, neg}
 use Rattle.float.specs.Values.{f0}
 use Rattle.grid.specs.Rect.{place}
 use Rattle.grid.specs.Ways.{Inside}
-use Rattle.detect.specs.Saddle.{side, inDisk}
+use Rattle.detect.specs.Saddle.{side, apart, inDisk}
 
 -- the disk's part of row y is the columns from k - r to k + r
 pub record Reaches (k y r : ℕ) : Type 0 where
   pub most : r ≤ k
   pub is : (x : ℕ) → x < side k → inDisk k (place x y) ≡ (leb (k - r) x && leb x (k + r))
 
--- the square around x, y is in an image w wide and h high that has n pixels or fewer
+-- the hexadecimal digits of p are how far the rows reach, by their distance from the middle one
+pub record Packs (k p : ℕ) : Type 0 where
+  pub is : (y : ℕ) → y < side k → Reaches k y (p / 2 ^ (4 * apart y k) % 16)
+
+-- the square of side 2 k + 1 around x, y is in an image w wide and h high, and the image in a buffer of n entries
 pub record Around (k n w h x y : ℕ) : Type 0 where
   pub small : k ≤ 7
   pub inside : Inside w h k x y

@@ -1,5 +1,5 @@
 -- What `detect_peaks_from_radon` promises: the answer, and what the list holds at the end. Document 01's numbers, for a working size.
-use mathlib.Core.Bool.{Bool, _||_, cond}
+use mathlib.Core.Bool.{_||_, cond}
 use Prim.Native.Nat.{ℕ, _*_, _/_, min}
 use mathlib.Core.List.{List}
 use lib.ListN.{length}

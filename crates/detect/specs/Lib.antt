@@ -8,4 +8,3 @@ pub mod Around
 pub mod Above
 pub mod Room
 pub mod Scan
-pub mod Allowed

@@ -1,5 +1,5 @@
 -- The saddle test, over an image as a function: f x y is the pixel in column x of row y. Assumes nothing.
-use mathlib.Core.Bool.{Bool, true, false, cond}
+use mathlib.Core.Bool.{Bool, false, cond}
 use mathlib.Core.List.{List, foldl}
 use Prim.Native.Nat.{ℕ, _+_, _-_, _*_, max}
 use lib.Dec.{leb}

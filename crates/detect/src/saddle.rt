@@ -4,7 +4,7 @@ ghost use Prim.Native.Nat.{_≤_, _<_};
 ghost use lib.ListN.{length};
 ghost use Rattle.grid.specs.Ways.{pixel};
 ghost use Rattle.detect.specs.Saddle.{side, apart, offset, momentsOf, normsOf, saddleOf, sumsOf, verdict, judge, saddleAt};
-ghost use Rattle.detect.specs.Around.{Reaches, Around, signless};
+ghost use Rattle.detect.specs.Around.{Reaches, Packs, Around, signless};
 use scalar::Root;
 
 // What a radius fixes: the mean of the squared distance over the disk, and 1 over the norms of r² - mean, of x² - y² and of xy.
@@ -15,6 +15,7 @@ pub struct SaddleTest {
     pub inv_xy: f32,
 }
 
+// The verdict: a saddle, too flat to tell, or curved to one side. Flat is tested first.
 pub enum Saddle {
     Yes,
     Flat,
@@ -40,17 +41,8 @@ const MIN_SADDLE_RATIO: f32 = 0.2;
 // Smallest difference of the two curvatures, times the squared radius: one gray level.
 const MIN_SADDLE_SPREAD: f32 = 1.0;
 
-// How far a row reaches to either side of the middle column: row k, entry d for the rows d away from the middle one, in the disk of radius k.
-const REACH: [[usize; 8]; 8] = [
-    [0, 0, 0, 0, 0, 0, 0, 0],
-    [1, 1, 0, 0, 0, 0, 0, 0],
-    [2, 1, 0, 0, 0, 0, 0, 0],
-    [3, 2, 2, 0, 0, 0, 0, 0],
-    [4, 3, 3, 2, 0, 0, 0, 0],
-    [5, 4, 4, 4, 3, 0, 0, 0],
-    [6, 5, 5, 5, 4, 3, 0, 0],
-    [7, 6, 6, 6, 5, 4, 3, 0],
-];
+// How far the rows of a disk reach to either side of its middle column: entry k for radius k, and in its hexadecimal digit d the rows d away from the middle one.
+const REACHES: [usize; 8] = [0, 0x11, 0x12, 0x223, 0x2334, 0x34445, 0x345556, 0x3456667];
 
 fn distance(i: usize, k: usize) -> usize
     ensures { λ r. ⌜ r ≡ apart i k ⌝ }
@@ -61,11 +53,19 @@ fn distance(i: usize, k: usize) -> usize
     i - k
 }
 
-fn reach(k: usize, iy: usize) -> usize
-    requires { ⌜ (k ≤ 7) × (iy < side k) ⌝ }
+// Looked up once for a disk, so that a row costs a shift.
+fn reaches_of(k: usize) -> usize
+    requires { ⌜ k ≤ 7 ⌝ }
+    ensures { λ r. ⌜ Packs k r ⌝ }
+{
+    REACHES[k]
+}
+
+fn reach(reaches: usize, k: usize, iy: usize) -> usize
+    requires { ⌜ (k ≤ 7) × (iy < side k) × Packs k reaches ⌝ }
     ensures { λ r. ⌜ Reaches k iy r ⌝ }
 {
-    REACH[k][distance(iy, k)]
+    (reaches >> (4 * distance(iy, k))) % 16
 }
 
 fn offset_of(k: usize, i: usize) -> f32
@@ -75,14 +75,16 @@ fn offset_of(k: usize, i: usize) -> f32
     ((i as u16) as f32) - ((k as u16) as f32)
 }
 
+// A disk is walked a row at a time, from its first column to its last: no place needs a test.
 fn disk_moments(k: usize) -> Moments
     requires { ⌜ k ≤ 7 ⌝ }
     ensures { λ r. ⌜ r ≡ momentsOf k ⌝ }
 {
     let rows = 2 * k + 1;
+    let reaches = reaches_of(k);
     let mut s = Moments { n: 0.0, r2: 0.0 };
     for iy in 0..rows {
-        let far = reach(k, iy);
+        let far = reach(reaches, k, iy);
         let dy = offset_of(k, iy);
         let first = k - far;
         let end = k + far + 1;
@@ -102,13 +104,14 @@ fn disk_norms(mean: f32, k: usize) -> Sums
     ensures { λ r. ⌜ r ≡ normsOf mean k ⌝ }
 {
     let rows = 2 * k + 1;
+    let reaches = reaches_of(k);
     let mut s = Sums {
         u: 0.0,
         v: 0.0,
         xy: 0.0,
     };
     for iy in 0..rows {
-        let far = reach(k, iy);
+        let far = reach(reaches, k, iy);
         let dy = offset_of(k, iy);
         let first = k - far;
         let end = k + far + 1;
@@ -142,18 +145,20 @@ pub fn new(k: usize) -> SaddleTest
     }
 }
 
+// Each pixel of the disk around x, y is added to the three sums, in the order of the places.
 fn project(t: SaddleTest, k: usize, image: &[u8], w: usize, h: usize, x: usize, y: usize) -> Sums
     requires { ⌜ Around k (length (now image)) w h x y ⌝ }
     ensures { λ r. ⌜ r ≡ sumsOf t k (pixel (now (image .entry)) w) x y ⌝ }
 {
     let rows = 2 * k + 1;
+    let reaches = reaches_of(k);
     let mut s = Sums {
         u: 0.0,
         v: 0.0,
         xy: 0.0,
     };
     for iy in 0..rows {
-        let far = reach(k, iy);
+        let far = reach(reaches, k, iy);
         let dy = offset_of(k, iy);
         let row = (y - k + iy) * w + (x - k);
         let first = k - far;
@@ -171,6 +176,7 @@ fn project(t: SaddleTest, k: usize, image: &[u8], w: usize, h: usize, x: usize, 
     s
 }
 
+// |x|, but that -0 stays, which no comparison sees.
 fn size(x: f32) -> f32
     ensures { λ r. ⌜ r ≡ signless x ⌝ }
 {
@@ -208,7 +214,7 @@ fn judged(t: SaddleTest, k: usize, s: Sums) -> Saddle
     }
 }
 
-// Whether the image, w wide, is a saddle around x, y; the disk lies inside the image.
+// Whether the image, w wide and h high, is a saddle around x, y; the disk lies inside it.
 pub fn accepts(
     t: SaddleTest,
     k: usize,

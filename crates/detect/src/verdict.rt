@@ -6,7 +6,7 @@ use super::saddle::SaddleTest;
 use super::saddle::accepts;
 use params::RadonDetectorParams;
 ghost use mathlib.Core.Path.{_≡_};
-ghost use Prim.Native.Nat.{_+_, _*_, _<_, _≤_};
+ghost use Prim.Native.Nat.{_+_, _*_};
 ghost use lib.ListN.{length};
 ghost use Rattle.grid.specs.Rect.{place};
 ghost use Rattle.grid.specs.Ways.{pixel};

@@ -2,6 +2,7 @@
 pub mod Values
 pub mod Computed
 pub mod Sized
+pub mod Ranged
 pub mod Order
 pub mod Product
 pub mod Whole

@@ -3,7 +3,7 @@
 -- An inner loop knows the buffer as it was where that loop began, so `old` in `Row` is that. omega reads the fields: an index wants no law. Assumes nothing.
 use mathlib.Core.Path.{_≡_, refl, sym, ap, _∙_}
 use Prim.Native.Nat.{ℕ, _+_, _*_, _≤_, _<_}
-use native.Mathlib.Nat.{add-zero, add-assoc, zero-mul, mul-comm, le-antisymm}
+use native.Mathlib.Nat.{add-zero, add-assoc, zero-mul, mul-comm, mul-le-mul-right, le-antisymm}
 use native.Mathlib.Omega.{arith}
 use mathlib.Core.List.{List}
 use lib.ListN.{length, set, getD, length-set}
@@ -31,7 +31,7 @@ module _ {ℓ} {A : Type ℓ} where
     pub long : length out ≡ length old
 
 -- filling on from where the entries below i are done already
-fill-again {ℓ} : {A : Type ℓ} (i : ℕ) (f : ℕ → A) (xs : List A) {ys : List A} → ys ≡ filled i f xs → ys ≡ filled i f ys
+pub fill-again {ℓ} : {A : Type ℓ} (i : ℕ) (f : ℕ → A) (xs : List A) {ys : List A} → ys ≡ filled i f xs → ys ≡ filled i f ys
 fill-again i f xs h = h ∙ sym (filled-filled i i f f xs (omega arith)) ∙ ap (filled i f) (sym h)
 
 module _ {ℓ} {A : Type ℓ} (n : ℕ) (f : ℕ → A) (xs : List A) where
@@ -78,6 +78,17 @@ module _ {ℓ} {A : Type ℓ} (w h : ℕ) (g : ℕ → ℕ → A) (xs : List A) 
 
   pub rows-all : {ys : List A} {y : ℕ} → Rows w h g xs ys y → h ≤ y → ys ≡ filled (w * h) (plane w g) xs
   rows-all r m = rw (mul-comm w h, ← le-antisymm (r .most) m) (r .fill)
+
+  -- a loop that goes on where the rows above y are done already: `rows-on` is its start, `rows-join` puts both together
+  pub rows-on : {ys : List A} {y : ℕ} → Rows w h g xs ys y → Rows w h g ys ys y
+  rows-on {ys} {y} r = record { most = r .most; fill = fill-again (y * w) (plane w g) xs (r .fill); long = refl }
+
+  pub rows-join : {ys zs : List A} {i j : ℕ} → Rows w h g xs ys i → Rows w h g ys zs j → i ≤ j → Rows w h g xs zs j
+  rows-join {ys} {zs} {i} {j} r q b = record {
+    most = q .most;
+    fill = q .fill ∙ ap (filled (j * w) (plane w g)) (r .fill) ∙ filled-filled (i * w) (j * w) (plane w g) (plane w g) xs (mul-le-mul-right w b);
+    long = q .long ∙ r .long;
+  }
 
   -- an entry at (a, b) that an earlier turn stored, read back
   pub row-read : {ys : List A} {x y k : ℕ} → Row w h g xs ys y x → w * h ≤ length xs → (d : A) (a b : ℕ) → a < w → k ≡ b * w + a → k < y * w + x → getD ys k d ≡ g a b

@@ -104,3 +104,25 @@ list-passes p e =
 pub room-passes : (pixels room : ℕ) → numberOf (roomRefusal pixels room) ≡ 0 → pixels ≤ room
 unfolding roomRefusal
 room-passes pixels room e = ltb-false _ _ (past _ _ _ refl e .0)
+
+-- ---- the whole tables
+
+module _ (width height image : ℕ) (p : RadonDetectorParams) (room : ℕ) where
+  pub map-accepted : numberOf (mapRefusalOf width height image p room) ≡ 0
+      → SizesPass width height image (p .«image_upsample») × MapPasses p × (pixelsOf width height (p .«image_upsample») ≤ room)
+  unfolding mapRefusalOf
+  map-accepted e =
+      let last = roomRefusal (pixelsOf width height (p .«image_upsample»)) room in
+      let a = both-pass (sizeRefusal width height image (p .«image_upsample»)) (orElse (mapRefusal p) last) e in
+      let b = both-pass (mapRefusal p) last (a .1) in
+      (sizes-pass width height image (p .«image_upsample») (a .0), map-passes p (b .0), room-passes (pixelsOf width height (p .«image_upsample»)) room (b .1))
+
+  pub all-accepted : numberOf (refusalOf width height image p room) ≡ 0
+      → SizesPass width height image (p .«image_upsample») × MapPasses p × ListPasses p × (pixelsOf width height (p .«image_upsample») ≤ room)
+  unfolding refusalOf
+  all-accepted e =
+      let last = roomRefusal (pixelsOf width height (p .«image_upsample»)) room in
+      let a = both-pass (sizeRefusal width height image (p .«image_upsample»)) (orElse (mapRefusal p) (orElse (listRefusal p) last)) e in
+      let b = both-pass (mapRefusal p) (orElse (listRefusal p) last) (a .1) in
+      let c = both-pass (listRefusal p) last (b .1) in
+      (sizes-pass width height image (p .«image_upsample») (a .0), map-passes p (b .0), list-passes p (c .0), room-passes (pixelsOf width height (p .«image_upsample»)) room (c .1))

@@ -1,12 +1,11 @@
-use mathlib.Core.Path.{_≡_, refl, sym, ap, _∙_}
-use Prim.Native.Nat.{ℕ, _+_, _-_, _*_, _≤_, _<_}
+-- `detect::above::next_above` meets its contract. Both loops keep `Passed`: no entry before i is above the floor. Assumes nothing.
+use mathlib.Core.Path.{sym, _∙_}
+use Prim.Native.Nat.{_-_}
 use native.Mathlib.Omega.{arith}
-use Rattle.detect.specs.Above.{over, Passed, passed-none, passed-one, passed-eight, next-found, next-none}
+use Rattle.detect.specs.Above.{over}
+use Rattle.detect.proofs.Passing.{Passed, passed-none, passed-one, passed-eight, next-found, next-none}
 use Rattle.detect.proofs.above.next_above.Statement.{statement}
 use Rattle.detect.proofs.above.next_above.Tie as tie
-use Rattle.detect.proofs.above.next_above.Reads as reads
-use Rattle.detect.proofs.above.next_above.Lts as lts
-use Rattle.detect.proofs.above.eight_above.Reads as eight-above-reads
 
 abbrev Inv-loop : tie.InvT-loop
 Inv-loop s from floor n i₀ i = Passed (over floor s) from n i
@@ -20,49 +19,10 @@ Inv-loop2 s from floor n i₀ i = Passed (over floor s) from n i
 abbrev μ-loop2 : tie.MeasureT-loop2
 μ-loop2 s from floor n i₀ i = n - i
 
-loop-holds : tie.Need-loop-holds Inv-loop μ-loop Inv-loop2 μ-loop2
-loop-holds c = passed-none _ _ _ (omega arith)
-
-sub-loop : tie.Need-sub-loop Inv-loop μ-loop Inv-loop2 μ-loop2
-sub-loop c = omega arith
-
-eight-above-requires : tie.Need-eight-above-requires Inv-loop μ-loop Inv-loop2 μ-loop2
-eight-above-requires c κs = omega arith
-
-add-i : tie.Need-add-i Inv-loop μ-loop Inv-loop2 μ-loop2
-add-i c = omega arith
-
-loop-less : tie.Need-loop-less Inv-loop μ-loop Inv-loop2 μ-loop2
-loop-less c = omega arith
-
 loop-again : tie.Need-loop-again Inv-loop μ-loop Inv-loop2 μ-loop2
 loop-again c =
     let t = c .before .before in
     passed-eight _ _ _ (t .before .loop .inv) (omega arith) (sym (c .before .eight-above .ensures) ∙ c .if1 .left)
-
-loop2-holds : tie.Need-loop2-holds Inv-loop μ-loop Inv-loop2 μ-loop2
-loop2-holds c = c .before .loop .inv
-
-mul-if2 : tie.Need-mul-if2 Inv-loop μ-loop Inv-loop2 μ-loop2
-mul-if2 c = omega arith
-
-shared-slice-read-if2 : tie.Need-shared-slice-read-if2 Inv-loop μ-loop Inv-loop2 μ-loop2
-shared-slice-read-if2 c = omega arith
-
-returns : tie.Need-returns Inv-loop μ-loop Inv-loop2 μ-loop2
-returns c = next-found _ _ _ (c .before .before .before .loop2 .inv) (c .before .before .loop2-test .taken) (c .if2 .taken)
-
-add-i-2 : tie.Need-add-i-2 Inv-loop μ-loop Inv-loop2 μ-loop2
-add-i-2 c = omega arith
-
-loop2-less : tie.Need-loop2-less Inv-loop μ-loop Inv-loop2 μ-loop2
-loop2-less c = omega arith
-
-loop2-again : tie.Need-loop2-again Inv-loop μ-loop Inv-loop2 μ-loop2
-loop2-again c = passed-one _ _ _ (c .before .before .before .loop2 .inv) (c .before .before .loop2-test .taken) (c .if2 .left)
-
-returns-2 : tie.Need-returns-2 Inv-loop μ-loop Inv-loop2 μ-loop2
-returns-2 c = next-none _ _ _ (c .before .loop2 .inv) (c .loop2-test .left)
 
 pub next-above-spec : {M : Type 1} → statement M
 next-above-spec =
@@ -72,17 +32,17 @@ next-above-spec =
     μ-loop
     Inv-loop2
     μ-loop2
-    loop-holds
-    sub-loop
-    eight-above-requires
-    add-i
-    loop-less
+    (λ c. passed-none _ _ _ (omega arith))
+    (λ c. omega arith)
+    (λ c κs. omega arith)
+    (λ c. omega arith)
+    (λ c. omega arith)
     loop-again
-    loop2-holds
-    mul-if2
-    shared-slice-read-if2
-    returns
-    add-i-2
-    loop2-less
-    loop2-again
-    returns-2)
+    (λ c. c .before .loop .inv)
+    (λ c. omega arith)
+    (λ c. omega arith)
+    (λ c. next-found _ _ _ (c .before .before .before .loop2 .inv) (c .before .before .loop2-test .taken) (c .if2 .taken))
+    (λ c. omega arith)
+    (λ c. omega arith)
+    (λ c. passed-one _ _ _ (c .before .before .before .loop2 .inv) (c .before .before .loop2-test .taken) (c .if2 .left))
+    (λ c. next-none _ _ _ (c .before .loop2 .inv) (c .loop2-test .left)))

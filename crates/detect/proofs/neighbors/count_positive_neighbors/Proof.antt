@@ -1,5 +1,6 @@
-use mathlib.Core.Path.{_≡_, refl, sym, ap, _∙_}
-use Prim.Native.Nat.{ℕ, _+_, _-_, _*_, _≤_, _<_}
+-- `detect::neighbors::count_positive_neighbors` meets its contract. The invariant counts the rows passed whole; the centre goes off at the end. Assumes nothing.
+use mathlib.Core.Path.{_≡_, _∙_}
+use Prim.Native.Nat.{ℕ, _+_, _-_, _*_, _≤_}
 use native.Mathlib.Omega.{arith}
 use mathlib.Core.List.{List}
 use lib.ListN.{length}
@@ -8,7 +9,7 @@ use Rattle.float.specs.Values.{f0}
 use Rattle.grid.specs.Each.{count, count-none, count-append, count-most}
 use Rattle.grid.specs.Rect.{Place, place, line, Down, down-none, down-row, down-all, length-line}
 use Rattle.detect.specs.Window.{value, at, window}
-use Rattle.detect.specs.Room.{room-row, part-length, part-count, positives-more, positives-same}
+use Rattle.detect.proofs.Windows.{room-row, part-length, part-count, positives-more, positives-same}
 use Rattle.detect.proofs.neighbors.count_positive_neighbors.Statement.{statement}
 use Rattle.detect.proofs.neighbors.count_positive_neighbors.Tie as tie
 
@@ -23,51 +24,9 @@ Inv-loop resp w h x y r ax n ay ey count₀ yy₀ count yy =
 abbrev μ-loop : tie.MeasureT-loop
 μ-loop resp w h x y r ax n ay ey count₀ yy₀ count yy = ey - yy
 
-sub-ax : tie.Need-sub-ax Inv-loop μ-loop
-sub-ax c = omega arith
-
-add-n : tie.Need-add-n Inv-loop μ-loop
-add-n c = omega arith
-
-add-n-2 : tie.Need-add-n-2 Inv-loop μ-loop
-add-n-2 c = omega arith
-
-sub-ay : tie.Need-sub-ay Inv-loop μ-loop
-sub-ay c = omega arith
-
-add-ey : tie.Need-add-ey Inv-loop μ-loop
-add-ey c = omega arith
-
-add-ey-2 : tie.Need-add-ey-2 Inv-loop μ-loop
-add-ey-2 c = omega arith
-
-loop-holds : tie.Need-loop-holds Inv-loop μ-loop
-loop-holds c = (down-none _ _ _ _ _ (omega arith) (count-none _), omega arith)
-
 -- the row ends within the map
 row : (c : tie.In-loop Inv-loop μ-loop) → c .before .loop .yy * c .before .before .before .args .w + c .before .before .before .args .w ≤ length (c .before .before .before .args .resp .now)
 row c = room-row (c .before .before .before .pre) (c .loop-test .taken)
-
-mul-a : tie.Need-mul-a Inv-loop μ-loop
-mul-a c = omega (arith, row c)
-
-add-a : tie.Need-add-a Inv-loop μ-loop
-add-a c = omega (arith, row c)
-
-add-e : tie.Need-add-e Inv-loop μ-loop
-add-e c = omega (arith, row c)
-
-mul-positive-in : tie.Need-mul-positive-in Inv-loop μ-loop
-mul-positive-in c = omega (arith, row c)
-
-sub-positive-in : tie.Need-sub-positive-in Inv-loop μ-loop
-sub-positive-in c = omega (arith, row c)
-
-part-positive-in-start : tie.Need-part-positive-in-start Inv-loop μ-loop
-part-positive-in-start c = omega (arith, row c)
-
-part-positive-in-end : tie.Need-part-positive-in-end Inv-loop μ-loop
-part-positive-in-end c = omega (arith, row c)
 
 positive-in-requires : tie.Need-positive-in-requires Inv-loop μ-loop
 positive-in-requires c κs =
@@ -83,31 +42,10 @@ counted c =
     let e = c .positive-in .ensures ∙ part-count (o .args .resp .now) (o .pre) (c .before .before .loop-test .taken) in
     (e, omega (arith, e, count-most (λ q. lt f0 (at (value (o .args .resp .now) (o .args .w)) q)) (line (o .args .x - o .args .r) (o .args .x + o .args .r + 1) (c .before .before .before .loop .yy)), length-line (o .args .x - o .args .r) (o .args .x + o .args .r + 1) (c .before .before .before .loop .yy)))
 
-add-count : tie.Need-add-count Inv-loop μ-loop
-add-count c = omega (arith, counted c .1)
-
-add-yy : tie.Need-add-yy Inv-loop μ-loop
-add-yy c = omega arith
-
-loop-less : tie.Need-loop-less Inv-loop μ-loop
-loop-less c = omega arith
-
 loop-again : tie.Need-loop-again Inv-loop μ-loop
 loop-again c =
     let r = counted c in
     (down-row _ _ _ _ _ _ (c .before .before .before .loop .inv .0) (c .before .before .loop-test .taken) (λ h. rw (count-append, ← h, ← r .0)), omega (arith, r .1))
-
-mul-if1 : tie.Need-mul-if1 Inv-loop μ-loop
-mul-if1 c = omega (arith, room-row (c .before .before .before .pre) {yy = c .before .before .before .args .y} (omega arith))
-
-add-if1 : tie.Need-add-if1 Inv-loop μ-loop
-add-if1 c = omega (arith, room-row (c .before .before .before .pre) {yy = c .before .before .before .args .y} (omega arith))
-
-mul-if1-2 : tie.Need-mul-if1-2 Inv-loop μ-loop
-mul-if1-2 c = omega (arith, room-row (c .before .before .before .pre) {yy = c .before .before .before .args .y} (omega arith))
-
-shared-slice-read-if1 : tie.Need-shared-slice-read-if1 Inv-loop μ-loop
-shared-slice-read-if1 c = omega (arith, room-row (c .before .before .before .before .pre) {yy = c .before .before .before .before .args .y} (omega arith))
 
 -- the whole window's count
 whole : (c : tie.After-loop Inv-loop μ-loop) → Counted (value (c .before .before .before .args .resp .now) (c .before .before .before .args .w)) (c .before .loop .count) (window (c .before .before .before .args .r) (place (c .before .before .before .args .x) (c .before .before .before .args .y)))
@@ -134,29 +72,29 @@ count-positive-neighbors-spec =
     (tie.spec
     Inv-loop
     μ-loop
-    sub-ax
-    add-n
-    add-n-2
-    sub-ay
-    add-ey
-    add-ey-2
-    loop-holds
-    mul-a
-    add-a
-    add-e
-    mul-positive-in
-    sub-positive-in
-    part-positive-in-start
-    part-positive-in-end
+    (λ c. omega arith)
+    (λ c. omega arith)
+    (λ c. omega arith)
+    (λ c. omega arith)
+    (λ c. omega arith)
+    (λ c. omega arith)
+    (λ c. (down-none _ _ _ _ _ (omega arith) (count-none _), omega arith))
+    (λ c. omega (arith, row c))
+    (λ c. omega (arith, row c))
+    (λ c. omega (arith, row c))
+    (λ c. omega (arith, row c))
+    (λ c. omega (arith, row c))
+    (λ c. omega (arith, row c))
+    (λ c. omega (arith, row c))
     positive-in-requires
-    add-count
-    add-yy
-    loop-less
+    (λ c. omega (arith, counted c .1))
+    (λ c. omega arith)
+    (λ c. omega arith)
     loop-again
-    mul-if1
-    add-if1
-    mul-if1-2
-    shared-slice-read-if1
+    (λ c. omega (arith, room-row (c .before .before .before .pre) {yy = c .before .before .before .args .y} (omega arith)))
+    (λ c. omega (arith, room-row (c .before .before .before .pre) {yy = c .before .before .before .args .y} (omega arith)))
+    (λ c. omega (arith, room-row (c .before .before .before .pre) {yy = c .before .before .before .args .y} (omega arith)))
+    (λ c. omega (arith, room-row (c .before .before .before .before .pre) {yy = c .before .before .before .before .args .y} (omega arith)))
     sub-result
     returns
     returns-2)

@@ -1,5 +1,6 @@
-use mathlib.Core.Path.{_≡_, refl, sym, ap, _∙_}
-use Prim.Native.Nat.{ℕ, _+_, _-_, _*_, _≤_, _<_}
+-- `detect::peaks::find_in_row` meets its contract. The invariant is `Scanned`: what the row has, up to the place where the search stands. Assumes nothing.
+use mathlib.Core.Path.{refl, sym, ap, _∙_}
+use Prim.Native.Nat.{_+_, _-_, _*_, _≤_, _<_}
 use native.Mathlib.Omega.{arith}
 use mathlib.Core.Logic.{inl, inr}
 use lib.ListN.{length}
@@ -7,7 +8,8 @@ use Rattle.grid.specs.Plane.{row-in}
 use Rattle.grid.specs.Ways.{pixel}
 use Rattle.detect.specs.Window.{value}
 use Rattle.detect.specs.Corners.{borderOf, isKept}
-use Rattle.detect.specs.Scan.{Scanned, scan-none, scan-all, Candidate, near-room, row-length, run-over, turn-no, turn-full, turn-put, nearer}
+use Rattle.detect.specs.Scan.{Candidate}
+use Rattle.detect.proofs.Scanning.{Scanned, scan-none, scan-all, near-room, row-length, run-over, turn-no, turn-full, turn-put, nearer}
 use Rattle.detect.proofs.peaks.find_in_row.Statement.{statement}
 use Rattle.detect.proofs.peaks.find_in_row.Tie as tie
 
@@ -24,33 +26,6 @@ fits c =
     let b : c .args .y < c .args .h = omega arith in
     omega (arith, row-in (c .args .w) b)
 
-border-requires : tie.Need-border-requires Inv-loop μ-loop
-border-requires c κs = tt
-
-sub-ex : tie.Need-sub-ex Inv-loop μ-loop
-sub-ex c = omega (arith, fits (c .before .before .before .before))
-
-mul-a : tie.Need-mul-a Inv-loop μ-loop
-mul-a c = omega (arith, fits (c .before .before .before .before))
-
-add-e : tie.Need-add-e Inv-loop μ-loop
-add-e c = omega (arith, fits (c .before .before .before .before))
-
-mul-row : tie.Need-mul-row Inv-loop μ-loop
-mul-row c = omega (arith, fits (c .before .before .before .before))
-
-sub-row : tie.Need-sub-row Inv-loop μ-loop
-sub-row c = omega (arith, fits (c .before .before .before .before))
-
-part-row-start : tie.Need-part-row-start Inv-loop μ-loop
-part-row-start c = omega (arith, fits (c .before .before .before .before))
-
-part-row-end : tie.Need-part-row-end Inv-loop μ-loop
-part-row-end c = omega (arith, fits (c .before .before .before .before))
-
-next-above-requires : tie.Need-next-above-requires Inv-loop μ-loop
-next-above-requires c κs = omega (arith, row-length (c .before .before .before .before .before .args .resp .now) (c .before .before .before .before .before .args .w) (c .before .before .before .before .before .args .y) (c .before .border .result) (fits (c .before .before .before .before .before)))
-
 loop-holds : tie.Need-loop-holds Inv-loop μ-loop
 loop-holds c =
     let o = c .before .before .before .before .before .before in
@@ -60,27 +35,6 @@ loop-holds c =
 -- the place is a candidate
 candidate : (c : tie.In-loop Inv-loop μ-loop) → Candidate (c .before .before .before .before .before .before .before .before .args .params) (c .before .before .before .before .before .before .before .before .args .t) (c .before .before .before .before .before .before .before .before .args .w) (c .before .before .before .before .before .before .before .before .args .h) (c .before .loop .x) (c .before .before .before .before .before .before .before .before .args .y) (length (c .before .before .before .before .before .before .before .before .args .resp .now)) (length (c .before .before .before .before .before .before .before .before .args .image .now))
 candidate c = record { judging = c .before .before .before .before .before .before .before .before .pre .judging; left = omega arith; right = omega arith; above = omega arith; below = omega arith }
-
-judge-at-requires : tie.Need-judge-at-requires Inv-loop μ-loop
-judge-at-requires c κs = candidate c
-
-is-kept-requires : tie.Need-is-kept-requires Inv-loop μ-loop
-is-kept-requires c κs = tt
-
-put-corner-requires : tie.Need-put-corner-requires Inv-loop μ-loop
-put-corner-requires c κs = (near-room (candidate (c .before .before .before .before .before)), rw (c .before .before .before .before .before .before .loop .inv .across .holds .same) (c .before .if2 .taken))
-
-add-count : tie.Need-add-count Inv-loop μ-loop
-add-count c = omega arith
-
-add-next-above : tie.Need-add-next-above Inv-loop μ-loop
-add-next-above c = omega arith
-
-next-above-requires-2 : tie.Need-next-above-requires-2 Inv-loop μ-loop
-next-above-requires-2 c κs = omega (arith, row-length (c .before .before .before .before .before .before .before .before .before .before .before .args .resp .now) (c .before .before .before .before .before .before .before .before .before .before .before .args .w) (c .before .before .before .before .before .before .before .before .before .before .before .args .y) (c .before .before .before .before .before .before .before .border .result) (fits (c .before .before .before .before .before .before .before .before .before .before .before)))
-
-loop-less : tie.Need-loop-less Inv-loop μ-loop
-loop-less c = nearer _ _ _ (c .before .before .before .before .loop-test .taken) (c .next-above2 .ensures .least)
 
 -- a turn, before the search goes on
 turned : (c : tie.After-next-above2 Inv-loop μ-loop) →
@@ -102,35 +56,29 @@ loop-again c =
     let b = c .before .before .before .before .before .before .before .before .border in
     run-over (c .before .before .before .before .before .before .before .before .before .before .before .before .args .resp .now) (c .before .before .before .before .before .before .before .before .before .before .before .before .args .w) (c .before .before .before .before .before .before .before .before .before .before .before .before .args .y) (b .result) (fits (c .before .before .before .before .before .before .before .before .before .before .before .before)) (turned c) (b .ensures) refl (c .next-above2 .ensures)
 
-same-length : tie.Need-same-length Inv-loop μ-loop
-same-length c = c .before .loop .inv .across .holds .same
-
-returns : tie.Need-returns Inv-loop μ-loop
-returns c = scan-all (c .before .loop .inv) (omega arith)
-
 pub find-in-row-spec : {M : Type 1} → statement M
 find-in-row-spec =
     tie.close
     (tie.spec
     Inv-loop
     μ-loop
-    border-requires
-    sub-ex
-    mul-a
-    add-e
-    mul-row
-    sub-row
-    part-row-start
-    part-row-end
-    next-above-requires
+    (λ c κs. tt)
+    (λ c. omega (arith, fits (c .before .before .before .before)))
+    (λ c. omega (arith, fits (c .before .before .before .before)))
+    (λ c. omega (arith, fits (c .before .before .before .before)))
+    (λ c. omega (arith, fits (c .before .before .before .before)))
+    (λ c. omega (arith, fits (c .before .before .before .before)))
+    (λ c. omega (arith, fits (c .before .before .before .before)))
+    (λ c. omega (arith, fits (c .before .before .before .before)))
+    (λ c κs. omega (arith, row-length (c .before .before .before .before .before .args .resp .now) (c .before .before .before .before .before .args .w) (c .before .before .before .before .before .args .y) (c .before .border .result) (fits (c .before .before .before .before .before))))
     loop-holds
-    judge-at-requires
-    is-kept-requires
-    put-corner-requires
-    add-count
-    add-next-above
-    next-above-requires-2
-    loop-less
+    (λ c κs. candidate c)
+    (λ c κs. tt)
+    (λ c κs. (near-room (candidate (c .before .before .before .before .before)), rw (c .before .before .before .before .before .before .loop .inv .across .holds .same) (c .before .if2 .taken)))
+    (λ c. omega arith)
+    (λ c. omega arith)
+    (λ c κs. omega (arith, row-length (c .before .before .before .before .before .before .before .before .before .before .before .args .resp .now) (c .before .before .before .before .before .before .before .before .before .before .before .args .w) (c .before .before .before .before .before .before .before .before .before .before .before .args .y) (c .before .before .before .before .before .before .before .border .result) (fits (c .before .before .before .before .before .before .before .before .before .before .before))))
+    (λ c. nearer _ _ _ (c .before .before .before .before .loop-test .taken) (c .next-above2 .ensures .least))
     loop-again
-    same-length
-    returns)
+    (λ c. c .before .loop .inv .across .holds .same)
+    (λ c. scan-all (c .before .loop .inv) (omega arith)))

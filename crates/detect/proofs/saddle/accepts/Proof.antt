@@ -1,5 +1,5 @@
 -- `detect::saddle::accepts` meets its contract. Assumes nothing.
-use mathlib.Core.Path.{_≡_, _∙_}
+use mathlib.Core.Path.{_∙_}
 use borrow.Author.Needs.{needs}
 use Rattle.detect.specs.Saddle.{saddleAt}
 use Rattle.detect.proofs.saddle.accepts.Statement.{statement}

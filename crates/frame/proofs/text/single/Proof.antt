@@ -1,0 +1,8 @@
+-- `frame::text::single` meets its contract. Assumes nothing.
+use borrow.Author.Needs.{needs}
+use borrow.Author.Tests.{lt-ltb, le-ltb}
+use Rattle.frame.proofs.text.single.Statement.{statement}
+use Rattle.frame.proofs.text.single.Tie as tie
+
+pub single-spec : {M : Type 1} → statement M
+single-spec = tie.close (tie.spec (λ c. rw (lt-ltb _ _ (c .if1 .taken))) (λ c. rw (le-ltb _ _ (c .if1 .left))))

@@ -1,0 +1,172 @@
+// The frame file: which bytes are taken, and what they mean. The printed list, line by line.
+use fields::Field;
+use params::Answer;
+use params::Outcome;
+use params::RadonDetectorParams;
+ghost use mathlib.Core.Path.{_≡_};
+ghost use mathlib.Core.List.{[]};
+ghost use Prim.Native.Nat.{_/_, _≤_, min};
+ghost use lib.Dec.{ltb};
+ghost use lib.ListN.{length, getD, drop};
+ghost use Rattle.frame.specs.FrameFile.{pick, byteAt, headerOf, readOf};
+ghost use Rattle.frame.specs.Printed.{printed};
+ghost use Rattle.frame.specs.Lines.{Shows};
+
+mod fields;
+mod text;
+
+// What the fields of a frame file say.
+pub struct Header {
+    pub width: usize,
+    pub height: usize,
+    pub params: RadonDetectorParams,
+}
+
+// What reading a frame file gives.
+pub enum Reading {
+    Frame(Header),
+    Refused(Answer),
+}
+
+// The bytes before the pixels.
+const HEADER: usize = 20;
+
+// The header of a frame file of at most `limit` bytes, or the lowest of the answers 10 to 14 that applies.
+pub fn read(file: &[u8], limit: usize) -> Reading
+    ensures { λ r. ⌜ r ≡ readOf limit (now (file .entry)) ⌝ }
+{
+    if limit < file.len() {
+        return Reading::Refused(Answer::FileTooLong);
+    }
+    if file.len() < HEADER {
+        return Reading::Refused(Answer::FileTooShort);
+    }
+    let Field::Value(_) = fields::version(file) else {
+        return Reading::Refused(Answer::Version);
+    };
+    let Field::Value(_) = fields::stated_length(file) else {
+        return Reading::Refused(Answer::StatedLength);
+    };
+    read_header(file)
+}
+
+// The fields after the stated length, and answer 14. No field is missing from a file of that many bytes.
+fn read_header(file: &[u8]) -> Reading
+    requires { ⌜ 20 ≤ length (now file) ⌝ }
+    ensures { λ r. ⌜ r ≡ pick (ltb 1 (byteAt (now (file .entry)) 12)) (Reading.Refused Answer.Mode) (Reading.Frame (headerOf (now (file .entry)))) ⌝ }
+{
+    let Field::Value(width) = fields::half(file, 5) else {
+        return Reading::Refused(Answer::FileTooShort);
+    };
+    let Field::Value(height) = fields::half(file, 7) else {
+        return Reading::Refused(Answer::FileTooShort);
+    };
+    let Field::Value(ray_radius) = fields::byte(file, 9) else {
+        return Reading::Refused(Answer::FileTooShort);
+    };
+    let Field::Value(image_upsample) = fields::byte(file, 10) else {
+        return Reading::Refused(Answer::FileTooShort);
+    };
+    let Field::Value(response_blur_radius) = fields::byte(file, 11) else {
+        return Reading::Refused(Answer::FileTooShort);
+    };
+    let Field::Value(mode) = fields::mode(file) else {
+        return Reading::Refused(Answer::Mode);
+    };
+    let Field::Value(nms_radius) = fields::byte(file, 13) else {
+        return Reading::Refused(Answer::FileTooShort);
+    };
+    let Field::Value(min_cluster_size) = fields::half(file, 14) else {
+        return Reading::Refused(Answer::FileTooShort);
+    };
+    let Field::Value(bits) = fields::word(file, 16) else {
+        return Reading::Refused(Answer::FileTooShort);
+    };
+    let params = RadonDetectorParams {
+        ray_radius,
+        image_upsample,
+        response_blur_radius,
+        peak_fit: fields::fit(mode),
+        threshold_rel: fields::float(bits),
+        nms_radius,
+        min_cluster_size,
+    };
+    Reading::Frame(Header {
+        width: width as usize,
+        height: height as usize,
+        params,
+    })
+}
+
+// The pixels of a frame file, where they stand.
+pub fn pixels(file: &[u8]) -> &[u8]
+    ensures { λ r. ⌜ now r ≡ drop 20 (now (file .entry)) ⌝ }
+{
+    let n = file.len();
+    if n < HEADER {
+        return &file[n..];
+    }
+    &file[HEADER..]
+}
+
+// A printed line: its bytes from the first on, its length, and zeros behind it.
+pub struct Line {
+    pub bytes: [u8; 64],
+    pub len: usize,
+}
+
+// How many numbers a corner has.
+const STRIDE: usize = 3;
+
+// The corners that the list holds: as many whole ones as fit.
+fn stored(count: usize, len: usize) -> usize
+    ensures { λ r. ⌜ r ≡ min count (len / 3) ⌝ }
+{
+    let room = len / STRIDE;
+    if count < room { count } else { room }
+}
+
+// How many lines are printed.
+pub fn lines(o: Outcome, list: &[f32]) -> usize
+    ensures { λ r. ⌜ r ≡ length (printed 3 o (now (list .entry))) ⌝ }
+{
+    let answer = o.answer;
+    let n = answer.number();
+    if n > 1 {
+        return 1;
+    }
+    let corners = stored(o.count, list.len());
+    if n == 1 {
+        return corners + 2;
+    }
+    corners + 1
+}
+
+// Line i of those, counted from 0; past the last it is empty.
+pub fn line_at(o: Outcome, list: &[f32], i: usize) -> Line
+    ensures { λ r. ⌜ Shows (getD (printed 3 o (now (list .entry))) i []) r ⌝ }
+{
+    let answer = o.answer;
+    let n = answer.number();
+    if n > 1 {
+        if i == 0 {
+            return text::refused(n);
+        }
+        return text::empty();
+    }
+    if i == 0 {
+        return text::first(o.w, o.h, o.count);
+    }
+    let corners = stored(o.count, list.len());
+    if i <= corners {
+        let at = (i - 1) * STRIDE;
+        return text::corner(list[at], list[at + 1], list[at + 2]);
+    }
+    if i > corners + 1 {
+        return text::empty();
+    }
+    if n == 1 {
+        return text::full();
+    }
+    text::empty()
+}

@@ -1,0 +1,2 @@
+-- Steps of the finder's proof, and the demands as theorems.
+pub mod Cases

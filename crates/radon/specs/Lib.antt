@@ -1,0 +1,2 @@
+-- What the finder promises, in document 01's words.
+pub mod Finder

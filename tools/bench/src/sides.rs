@@ -1,0 +1,156 @@
+//! The three sides: ours, the Rust as it is built by default, and the Rust with u32 tables.
+
+use std::hint::black_box;
+
+use steyrbunk::lent::View;
+use steyrbunk::{Finder, Image, PeakFit, Settings};
+
+use crate::Pass;
+
+/// A program with its own buffers, which it keeps.
+pub trait Side {
+    /// Makes everything once, so that the list has a map, and tells how many corners there are.
+    fn count(&mut self) -> usize;
+    /// One timed call.
+    fn call(&mut self, pass: Pass);
+}
+
+/// The static library through its wrapper, whose list grows in the first call.
+pub struct Ours<'a> {
+    image: Image<'a>,
+    settings: Settings,
+    finder: Finder,
+    map: Option<OwnMap>,
+}
+
+/// A map of its own for the list: working image and response, width and height.
+type OwnMap = (Vec<u8>, Vec<f32>, usize, usize);
+
+impl<'a> Ours<'a> {
+    pub fn new(image: Image<'a>, settings: Settings) -> Self {
+        Ours {
+            image,
+            settings,
+            finder: Finder::new(),
+            map: None,
+        }
+    }
+
+    fn whole(&mut self) -> usize {
+        let found = self.finder.find(self.image, &self.settings);
+        found.expect("an accepted frame").corners.len()
+    }
+}
+
+impl Side for Ours<'_> {
+    fn count(&mut self) -> usize {
+        let count = self.whole();
+        let map = self.finder.map();
+        self.map = Some((
+            map.working.to_vec(),
+            map.response.to_vec(),
+            map.width,
+            map.height,
+        ));
+        count
+    }
+
+    fn call(&mut self, pass: Pass) {
+        match pass {
+            Pass::Map(_) => {
+                black_box(self.finder.response(self.image, &self.settings)).expect("accepted");
+            }
+            Pass::List => {
+                let (working, response, width, height) = self.map.as_ref().expect("counted before");
+                let view = View {
+                    response,
+                    working,
+                    width: *width,
+                    height: *height,
+                };
+                black_box(self.finder.peaks(view, &self.settings)).expect("accepted");
+            }
+            Pass::Whole => {
+                black_box(self.whole());
+            }
+        }
+    }
+}
+
+/// A side over one build of the judge: the two builds have the same names, but not the same types.
+macro_rules! original {
+    ($(#[$about:meta])* $name:ident, $build:ident) => {
+        $(#[$about])*
+        pub struct $name<'a> {
+            image: Image<'a>,
+            params: $build::original::RadonDetectorParams,
+            buffers: $build::original::RadonBuffers,
+            map: Option<OwnMap>,
+        }
+
+        impl<'a> $name<'a> {
+            pub fn new(image: Image<'a>, settings: Settings) -> Self {
+                let mut params = $build::original::RadonDetectorParams::default();
+                params.ray_radius = settings.ray_radius;
+                params.image_upsample = settings.image_upsample;
+                params.response_blur_radius = settings.response_blur_radius;
+                params.peak_fit = match settings.peak_fit {
+                    PeakFit::Parabolic => $build::original::PeakFitMode::Parabolic,
+                    PeakFit::Gaussian => $build::original::PeakFitMode::Gaussian,
+                };
+                params.threshold_rel = settings.threshold_rel;
+                params.nms_radius = settings.nms_radius;
+                params.min_cluster_size = settings.min_cluster_size;
+                let buffers = $build::original::RadonBuffers::new();
+                $name { image, params, buffers, map: None }
+            }
+
+            fn map(&mut self) -> $build::original::RadonResponseView<'_> {
+                let Image { pixels, width, height } = self.image;
+                $build::original::radon_response_u8(pixels, width, height, &self.params, &mut self.buffers)
+            }
+
+            fn whole(&mut self) -> usize {
+                let params = self.params.clone();
+                $build::original::detect_peaks_from_radon(&self.map(), &params).len()
+            }
+        }
+
+        impl Side for $name<'_> {
+            fn count(&mut self) -> usize {
+                let view = self.map();
+                let (response, working) = $build::original::parts(&view);
+                let map = (working.to_vec(), response.to_vec(), view.width(), view.height());
+                self.map = Some(map);
+                self.whole()
+            }
+
+            fn call(&mut self, pass: Pass) {
+                match pass {
+                    Pass::Map(_) => {
+                        black_box(self.map());
+                    }
+                    Pass::List => {
+                        let (working, response, w, h) = self.map.as_ref().expect("counted before");
+                        let view = $build::original::view(response, working, *w, *h);
+                        black_box($build::original::detect_peaks_from_radon(&view, &self.params));
+                    }
+                    Pass::Whole => {
+                        black_box(self.whole());
+                    }
+                }
+            }
+        }
+    };
+}
+
+original!(
+    /// The Rust as it is built by default: i64 tables.
+    Default64,
+    judge
+);
+original!(
+    /// The Rust with its feature for u32 tables.
+    Tables32,
+    judge_u32
+);

@@ -1,0 +1,154 @@
+//! What can differ between the two programs, each with the first place where it does.
+
+use std::fmt;
+
+/// A buffer or a number of a corner.
+#[derive(Clone, Copy, Debug, PartialEq, Eq)]
+pub enum What {
+    Working,
+    RowTable,
+    ColumnTable,
+    FallingTable,
+    RisingTable,
+    Response,
+    Scratch,
+    X,
+    Y,
+    Strength,
+}
+
+impl What {
+    /// Floats are shown as their bits, whole numbers in decimal.
+    fn is_float(self) -> bool {
+        matches!(
+            self,
+            What::Response | What::Scratch | What::X | What::Y | What::Strength
+        )
+    }
+}
+
+impl fmt::Display for What {
+    fn fmt(&self, out: &mut fmt::Formatter<'_>) -> fmt::Result {
+        out.write_str(match self {
+            What::Working => "working image",
+            What::RowTable => "row table",
+            What::ColumnTable => "column table",
+            What::FallingTable => "table of falling diagonals",
+            What::RisingTable => "table of rising diagonals",
+            What::Response => "response",
+            What::Scratch => "blur scratch",
+            What::X => "x",
+            What::Y => "y",
+            What::Strength => "strength",
+        })
+    }
+}
+
+/// Floats are given by their bits.
+#[derive(Clone, Debug, PartialEq)]
+pub enum Difference {
+    /// 0 where a program takes the frame.
+    Answer {
+        theirs: u32,
+        ours: u32,
+    },
+    Sizes {
+        theirs: (usize, usize),
+        ours: (usize, usize),
+    },
+    /// The first entry of a buffer that differs.
+    Entry {
+        what: What,
+        x: usize,
+        y: usize,
+        theirs: u32,
+        ours: u32,
+    },
+    Count {
+        theirs: usize,
+        ours: usize,
+    },
+    /// The first corner that only one list has, after all that both have; its bits.
+    Alone {
+        index: usize,
+        theirs: bool,
+        corner: [u32; 3],
+    },
+    /// The first corner that differs.
+    Corner {
+        index: usize,
+        what: What,
+        theirs: u32,
+        ours: u32,
+    },
+}
+
+/// A number as a person reads it: bits and value of a float.
+fn shown(what: What, number: u32) -> String {
+    if what.is_float() {
+        format!("{number:08X} ({})", f32::from_bits(number))
+    } else {
+        number.to_string()
+    }
+}
+
+fn answered(number: u32) -> String {
+    match number {
+        0 => "takes the frame".to_string(),
+        number => format!("refuses with {number}"),
+    }
+}
+
+impl fmt::Display for Difference {
+    fn fmt(&self, out: &mut fmt::Formatter<'_>) -> fmt::Result {
+        match self {
+            Difference::Answer { theirs, ours } => {
+                write!(
+                    out,
+                    "answer: the Rust {}, ours {}",
+                    answered(*theirs),
+                    answered(*ours)
+                )
+            }
+            Difference::Sizes { theirs, ours } => {
+                write!(out, "working sizes: the Rust {theirs:?}, ours {ours:?}")
+            }
+            Difference::Entry {
+                what,
+                x,
+                y,
+                theirs,
+                ours,
+            } => {
+                let (theirs, ours) = (shown(*what, *theirs), shown(*what, *ours));
+                write!(out, "{what} at ({x}, {y}): the Rust {theirs}, ours {ours}")
+            }
+            Difference::Count { theirs, ours } => {
+                write!(out, "count: the Rust {theirs}, ours {ours}")
+            }
+            Difference::Alone {
+                index,
+                theirs,
+                corner: [x, y, strength],
+            } => {
+                let whose = if *theirs { "the Rust's" } else { "ours" };
+                write!(
+                    out,
+                    "corner {index} is {whose} alone: {x:08X} {y:08X} {strength:08X}"
+                )
+            }
+            Difference::Corner {
+                index,
+                what,
+                theirs,
+                ours,
+            } => {
+                let (theirs, ours) = (shown(*what, *theirs), shown(*what, *ours));
+                write!(
+                    out,
+                    "corner {index}, {what}: the Rust {theirs}, ours {ours}"
+                )
+            }
+        }
+    }
+}

@@ -1,0 +1,14 @@
+//! Holds the proved finder against the published Rust, frame by frame, to the bit.
+
+mod difference;
+mod gaussian;
+mod pair;
+mod source;
+mod summary;
+mod tables;
+
+pub use difference::{Difference, What};
+pub use gaussian::{Class, Distances, BOUND, CURVATURES};
+pub use pair::{Held, Pair};
+pub use source::{Job, Source};
+pub use summary::Summary;

@@ -1,0 +1,209 @@
+//! `compare`: both programs over files, archives or made frames.
+
+use std::fs;
+use std::path::{Path, PathBuf};
+use std::process::ExitCode;
+use std::sync::{mpsc, Mutex};
+use std::thread;
+
+use compare::{Held, Job, Pair, Source, Summary, BOUND};
+use console::{say, Progress, Usage, Word, Words};
+use judge::Sizes;
+
+const HELP: &str = "\
+compare runs the published Rust and the proved finder over the same frames.
+
+  compare [OPTIONS] PATH...                          frame files, and folders of *.frame files
+  compare [OPTIONS] --archive FILE...                frame files end to end in each file
+  compare [OPTIONS] --seed S --count N [--first I]   frames made from a seed, index I to I+N-1
+
+Answers, working image, tables, map, scratch and list must be equal to the bit. Only the places of
+Gaussian corners may differ: by the bound divided by the peak's curvature (the second difference of
+three logarithms) in working pixels, at most by one pixel, and by one step of an f32.
+
+  --max-side M     made frames with sides up to M; without it they have the program's size, up to
+                   2,304 working pixels
+  --bound B        the bound for Gaussian places (default 5e-6)
+  --no-tables      leaves the four tables and the scratch out, which is several times as fast
+  --lists          prints both lists of each frame
+  --each           prints a line for each made frame; for files this is done anyway
+  --keep FOLDER    writes each frame that differs into the folder
+  --threads N      default 2
+
+The status is 0 if nothing differs that may not, 1 if something does, a file could not be read or
+there was nothing to compare, 2 if the words of the call are wrong.
+";
+
+struct Options {
+    bound: f64,
+    tables: bool,
+    lists: bool,
+    each: bool,
+    keep: Option<PathBuf>,
+    threads: usize,
+}
+
+fn options(mut words: Words) -> Result<(Options, Source), Usage> {
+    let mut options = Options {
+        bound: BOUND,
+        tables: true,
+        lists: false,
+        each: false,
+        keep: None,
+        threads: 2,
+    };
+    let (mut seed, mut count, mut first, mut sizes) = (None, None, 0, Sizes::PROGRAM);
+    let (mut archive, mut paths) = (false, Vec::new());
+    while let Some(word) = words.word()? {
+        let flag = match word {
+            Word::Path(path) => {
+                paths.push(path);
+                continue;
+            }
+            Word::Flag(flag) => flag,
+        };
+        match flag.as_str() {
+            "--seed" => seed = Some(words.value(&flag, "a number")?),
+            "--count" => count = Some(words.value(&flag, "a number")?),
+            "--first" => first = words.value(&flag, "a number")?,
+            "--max-side" => sizes = Sizes::up_to(words.value(&flag, "a number of pixels")?),
+            "--bound" => options.bound = words.value(&flag, "a number")?,
+            "--no-tables" => options.tables = false,
+            "--lists" => options.lists = true,
+            "--each" => options.each = true,
+            "--keep" => options.keep = Some(words.path(&flag, "a folder")?),
+            "--threads" => options.threads = words.value(&flag, "a number")?,
+            "--archive" => archive = true,
+            _ => return Usage::wrong(format!("{flag} is not known")),
+        }
+    }
+    let source = match (seed, count, paths.is_empty()) {
+        (Some(seed), Some(count), true) if !archive => Source::made(seed, first, count, sizes),
+        (None, None, false) if archive => Source::archives(&paths),
+        (None, None, false) => {
+            options.each = true;
+            Source::files(&paths).or_else(|error| Usage::wrong(error.to_string()))?
+        }
+        _ => return Usage::wrong("either paths, or --seed and --count"),
+    };
+    options.each |= archive;
+    Ok((options, source))
+}
+
+/// A frame that was held, or why it could not be read.
+struct Line {
+    name: String,
+    held: Result<Held, String>,
+    /// Whether it differs and could not be kept.
+    lost: Option<String>,
+}
+
+fn hold(pair: &mut Pair, mut job: Job, keep: Option<&Path>) -> Line {
+    let name = job.name();
+    let mut lost = None;
+    let held = job.open().map(|file| {
+        let held = pair.hold(&file);
+        if let Some(folder) = keep.filter(|_| !held.differences.is_empty()) {
+            let path = folder.join(job.file_name());
+            lost = fs::write(&path, file)
+                .err()
+                .map(|error| format!("{}: {error}", path.display()));
+        }
+        held
+    });
+    Line { name, held, lost }
+}
+
+/// Workers take shares of the frames; what they find is told in the frames' order.
+fn run(options: &Options, source: Source) -> Summary {
+    let mut progress = Progress::new(source.total());
+    let source = Mutex::new((0u64, source));
+    let (sender, receiver) = mpsc::sync_channel(64);
+    let mut summary = Summary::default();
+    thread::scope(|scope| {
+        for _ in 0..options.threads.max(1) {
+            let (sender, source) = (sender.clone(), &source);
+            scope.spawn(move || {
+                let mut pair = Pair::new(options.bound);
+                pair.tables = options.tables;
+                loop {
+                    let (number, jobs) = {
+                        let mut source = source.lock().expect("no worker panics with it");
+                        source.0 += 1;
+                        (source.0, source.1.share())
+                    };
+                    if jobs.is_empty() {
+                        break;
+                    }
+                    let keep = options.keep.as_deref();
+                    let lines: Vec<Line> = jobs
+                        .into_iter()
+                        .map(|job| hold(&mut pair, job, keep))
+                        .collect();
+                    if sender.send((number, lines)).is_err() {
+                        break;
+                    }
+                }
+            });
+        }
+        drop(sender);
+        let mut waiting = std::collections::BTreeMap::new();
+        let mut next = 1;
+        for (number, lines) in receiver {
+            waiting.insert(number, lines);
+            while let Some(lines) = waiting.remove(&next) {
+                next += 1;
+                for line in lines {
+                    tell(options, &line, &mut summary, &mut progress);
+                }
+                let note = format!(", {} differ", summary.differ);
+                progress.show(summary.frames + summary.unread, &note);
+            }
+        }
+    });
+    progress.clear();
+    let seconds = progress.seconds();
+    let rate = summary.frames as f64 / seconds.max(1e-9);
+    say(&format!(
+        "{seconds:.1} seconds, {rate:.0} frames a second, {} threads\n",
+        options.threads.max(1)
+    ));
+    summary
+}
+
+fn tell(options: &Options, line: &Line, summary: &mut Summary, progress: &mut Progress) {
+    let name = &line.name;
+    match &line.held {
+        Err(error) => {
+            summary.unread += 1;
+            progress.clear();
+            say(&format!("{name}: NOT READ: {error}\n"));
+        }
+        Ok(held) => {
+            summary.add(held);
+            if options.each || options.lists || !held.differences.is_empty() {
+                progress.clear();
+                say(&format!("{name}: {held}\n"));
+            }
+            if options.lists {
+                say(&held.lists());
+            }
+        }
+    }
+    if let Some(lost) = &line.lost {
+        say(&format!("{lost}\n"));
+    }
+}
+
+fn main() -> ExitCode {
+    console::run("compare", HELP, |words| {
+        let (options, source) = options(words)?;
+        if let Some(folder) = &options.keep {
+            fs::create_dir_all(folder)
+                .or_else(|error| Usage::wrong(format!("{}: {error}", folder.display())))?;
+        }
+        let summary = run(&options, source);
+        say(&summary.to_string());
+        Ok(ExitCode::from(u8::from(!summary.agreed())))
+    })
+}

@@ -1,0 +1,105 @@
+//! What a run found, counted.
+
+use std::collections::BTreeMap;
+use std::fmt;
+
+use crate::gaussian::{Distances, CURVATURES};
+use crate::pair::Held;
+
+#[derive(Default)]
+pub struct Summary {
+    pub frames: u64,
+    pub differ: u64,
+    /// Frames that could not be read.
+    pub unread: u64,
+    corners: u64,
+    refused: BTreeMap<u32, u64>,
+    distances: Distances,
+}
+
+impl Summary {
+    pub fn add(&mut self, held: &Held) {
+        self.frames += 1;
+        self.differ += u64::from(!held.differences.is_empty());
+        self.distances.join(&held.distances);
+        match &held.theirs {
+            Ok(found) => self.corners += found.corners.len() as u64,
+            Err(number) => *self.refused.entry(*number).or_default() += 1,
+        }
+    }
+
+    /// Something was compared, everything was read, and nothing differs that may not.
+    pub fn agreed(&self) -> bool {
+        self.frames > 0 && self.differ == 0 && self.unread == 0
+    }
+
+    fn distances(&self, out: &mut fmt::Formatter<'_>) -> fmt::Result {
+        let Distances {
+            equal,
+            classes,
+            product,
+        } = &self.distances;
+        let all = self.distances.all();
+        writeln!(
+            out,
+            "Gaussian coordinates: {equal} equal to the bit, {} not",
+            all.coordinates
+        )?;
+        if all.coordinates == 0 {
+            return Ok(());
+        }
+        writeln!(out, "  curvature     coordinates  greatest distance")?;
+        for (at, class) in classes
+            .iter()
+            .enumerate()
+            .filter(|(_, class)| class.coordinates > 0)
+        {
+            let range = match CURVATURES.get(at) {
+                Some(end) => format!("below {end:.0e}"),
+                None => format!("{:.0e} and up", CURVATURES[at - 1]),
+            };
+            let (pixels, steps) = (class.pixels, class.steps);
+            writeln!(
+                out,
+                "  {range:12} {:12}  {pixels:.2e} input pixels, {steps} steps",
+                class.coordinates
+            )?;
+        }
+        writeln!(out, "  greatest distance times curvature: {product:.2e}")
+    }
+}
+
+impl fmt::Display for Summary {
+    fn fmt(&self, out: &mut fmt::Formatter<'_>) -> fmt::Result {
+        let Summary {
+            frames,
+            differ,
+            unread,
+            corners,
+            ..
+        } = self;
+        let refused: u64 = self.refused.values().sum();
+        writeln!(
+            out,
+            "{frames} frames: {} agreed, {differ} differ, {unread} could not be read",
+            frames - differ
+        )?;
+        writeln!(
+            out,
+            "the Rust: {} with {corners} corners, {refused} refused by document 01",
+            frames - refused
+        )?;
+        if refused > 0 {
+            let each = self
+                .refused
+                .iter()
+                .map(|(number, count)| format!("{number}: {count}"));
+            writeln!(
+                out,
+                "refused by number: {}",
+                each.collect::<Vec<_>>().join(", ")
+            )?;
+        }
+        self.distances(out)
+    }
+}

@@ -1,0 +1,100 @@
+//! The words of a call: flags, their values, and paths.
+
+use std::ffi::OsString;
+use std::io::{self, Write};
+use std::path::PathBuf;
+use std::process::{self, ExitCode};
+use std::str::FromStr;
+use std::{env, vec};
+
+/// Words that a command cannot use, or the wish for its help.
+#[derive(Debug)]
+pub enum Usage {
+    Help,
+    Wrong(String),
+}
+
+impl Usage {
+    pub fn wrong<T>(text: impl Into<String>) -> Result<T, Usage> {
+        Err(Usage::Wrong(text.into()))
+    }
+}
+
+pub enum Word {
+    Flag(String),
+    Path(PathBuf),
+}
+
+pub struct Words {
+    words: vec::IntoIter<OsString>,
+    /// After `--` everything is a path.
+    paths: bool,
+}
+
+impl Words {
+    pub fn of_call() -> Words {
+        let words: Vec<OsString> = env::args_os().skip(1).collect();
+        Words {
+            words: words.into_iter(),
+            paths: false,
+        }
+    }
+
+    /// The next flag or path; the wish for help is answered here.
+    pub fn word(&mut self) -> Result<Option<Word>, Usage> {
+        let Some(word) = self.words.next() else {
+            return Ok(None);
+        };
+        match word.to_str() {
+            Some("--help" | "-h") if !self.paths => Err(Usage::Help),
+            Some("--") if !self.paths => {
+                self.paths = true;
+                self.word()
+            }
+            Some(flag) if flag.starts_with("--") && !self.paths => {
+                Ok(Some(Word::Flag(flag.to_string())))
+            }
+            _ => Ok(Some(Word::Path(word.into()))),
+        }
+    }
+
+    /// The value after a flag; `wanted` says what it is.
+    pub fn value<T: FromStr>(&mut self, flag: &str, wanted: &str) -> Result<T, Usage> {
+        let word = self.path(flag, wanted)?;
+        let value = word.to_str().and_then(|word| word.parse().ok());
+        value
+            .ok_or_else(|| Usage::Wrong(format!("{flag} wants {wanted}, not '{}'", word.display())))
+    }
+
+    /// The path after a flag.
+    pub fn path(&mut self, flag: &str, wanted: &str) -> Result<PathBuf, Usage> {
+        let word = self.words.next().map(PathBuf::from);
+        word.ok_or_else(|| Usage::Wrong(format!("{flag} wants {wanted}")))
+    }
+}
+
+/// Writes to standard output; where nobody reads it any more the command ends.
+pub fn say(text: &str) {
+    if io::stdout().write_all(text.as_bytes()).is_err() {
+        process::exit(1);
+    }
+}
+
+/// Runs a command: help goes to standard output, wrong words leave with 2, else the command's own status.
+pub fn run(
+    name: &str,
+    help: &str,
+    command: impl FnOnce(Words) -> Result<ExitCode, Usage>,
+) -> ExitCode {
+    match command(Words::of_call()) {
+        Ok(code) => code,
+        Err(Usage::Help) => {
+            say(help);
+            ExitCode::SUCCESS
+        }
+        Err(Usage::Wrong(text)) => {
+            eprintln!("{name}: {text}\nTry {name} --help.");
+            ExitCode::from(2)
+        }
+    }
+}

@@ -1,0 +1,115 @@
+//! Lists as text: as document 01 prints them, as CSV, as JSON.
+
+use std::fmt::Write;
+
+use steyrbunk::{printed, Corner, Found};
+
+use crate::frame::Problem;
+
+#[derive(Clone, Copy, PartialEq, Eq)]
+pub enum Format {
+    List,
+    Csv,
+    Json,
+}
+
+pub const CSV_HEAD: &str = "file,corner,x,y,strength\n";
+
+impl Format {
+    pub fn from_name(name: &str) -> Option<Format> {
+        match name {
+            "list" => Some(Format::List),
+            "csv" => Some(Format::Csv),
+            "json" => Some(Format::Json),
+            _ => None,
+        }
+    }
+
+    /// The ending of a result in this format.
+    pub fn ending(self) -> &'static str {
+        match self {
+            Format::List => "corners",
+            Format::Csv => "csv",
+            Format::Json => "json",
+        }
+    }
+
+    /// What goes before all lists that share a file or standard output.
+    pub fn head(self) -> &'static str {
+        match self {
+            Format::Csv => CSV_HEAD,
+            _ => "",
+        }
+    }
+
+    /// The list of one frame.
+    pub fn list(self, name: &str, found: &Found) -> String {
+        match self {
+            Format::List => printed(&Ok(found.clone())),
+            Format::Csv => csv(name, &found.corners),
+            Format::Json => json(name, found),
+        }
+    }
+
+    /// What stands in the place of a list that there is not; CSV has no line for it.
+    pub fn problem(self, name: &str, problem: &Problem) -> String {
+        match (self, problem) {
+            (Format::List, Problem::Refused(refusal)) => printed(&Err(*refusal)),
+            (Format::Json, Problem::Refused(refusal)) => {
+                let (file, reason) = (quoted(name), quoted(refusal.sentence()));
+                format!(
+                    "{{\"file\":{file},\"refused\":{},\"reason\":{reason}}}\n",
+                    refusal.number()
+                )
+            }
+            (Format::Json, Problem::Damaged(text)) => {
+                format!("{{\"file\":{},\"error\":{}}}\n", quoted(name), quoted(text))
+            }
+            _ => String::new(),
+        }
+    }
+}
+
+fn csv(name: &str, corners: &[Corner]) -> String {
+    let file = if name.contains([',', '"', '\n', '\r']) {
+        format!("\"{}\"", name.replace('"', "\"\""))
+    } else {
+        name.to_string()
+    };
+    let mut text = String::new();
+    for (at, Corner { x, y, strength }) in corners.iter().enumerate() {
+        writeln!(text, "{file},{at},{x},{y},{strength}").expect("a string takes all");
+    }
+    text
+}
+
+/// One line: an f32 is printed so that it reads back the same.
+fn json(name: &str, found: &Found) -> String {
+    let corner = |Corner { x, y, strength }: &Corner| {
+        format!("{{\"x\":{x},\"y\":{y},\"strength\":{strength}}}")
+    };
+    let corners: Vec<String> = found.corners.iter().map(corner).collect();
+    format!(
+        "{{\"file\":{},\"working_width\":{},\"working_height\":{},\"count\":{},\"corners\":[{}]}}\n",
+        quoted(name),
+        found.width,
+        found.height,
+        corners.len(),
+        corners.join(",")
+    )
+}
+
+fn quoted(text: &str) -> String {
+    let mut out = String::from("\"");
+    for letter in text.chars() {
+        match letter {
+            '"' | '\\' => out.extend(['\\', letter]),
+            letter if letter < ' ' => {
+                write!(out, "\\u{:04x}", letter as u32).expect("a string takes all")
+            }
+            letter => out.push(letter),
+        }
+    }
+    out.push('"');
+    out
+}

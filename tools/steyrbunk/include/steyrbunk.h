@@ -1,0 +1,120 @@
+/* steyrbunk.h: the proved Radon corner finder, as a static library (libsteyrbunk.a).
+ *
+ * Three functions. steyrbunk_find does everything; steyrbunk_response makes the map alone, and
+ * steyrbunk_peaks makes the list of a map. They allocate nothing, keep nothing between calls, and
+ * may run at the same time on different buffers. The caller lends every buffer.
+ *
+ * Words used below
+ *   factor       1 or 2: image_upsample, where 0 counts as 1, and 3 or more as 2
+ *   W, H         working width and height: width and height times the factor
+ *   entry        one element of a buffer; lengths are counted in entries, not in bytes
+ *
+ * Lent buffers. working, the four tables, response and blur_scratch need at least W*H entries each,
+ * 25 bytes a working pixel together. What they held before changes nothing. With answers 0 and 1 the
+ * first W*H entries of each are written, row after row (those of blur_scratch only if the blur radius
+ * is not 0); entries beyond stay as they were. With every other answer no buffer changes.
+ * No two buffers may overlap, and none may overlap the image. Where a length is 0 its pointer is not
+ * read.
+ *
+ * Answers. The lowest number of 2 to 9 that applies is given; 14 comes before them.
+ *    0  accepted, all corners are in the list
+ *    1  accepted, more corners than the list has room for: it holds the opening ones
+ *    2  width or height is over 4,096
+ *    3  image_len is not width times height
+ *    4  W*H is over 8,388,608
+ *    5  ray_radius is over 7
+ *    6  response_blur_radius is over 3
+ *    7  nms_radius is over 32
+ *    8  threshold_rel is NaN, below 0 or above 1
+ *    9  a lent buffer other than the list is too short
+ *   14  peak_fit is above 1
+ */
+#ifndef STEYRBUNK_H
+#define STEYRBUNK_H
+
+#include <stddef.h>
+#include <stdint.h>
+
+#ifdef __cplusplus
+extern "C" {
+#endif
+
+/* The default settings. */
+#define STEYRBUNK_RAY_RADIUS 4u
+#define STEYRBUNK_IMAGE_UPSAMPLE 2u
+#define STEYRBUNK_RESPONSE_BLUR_RADIUS 1u
+#define STEYRBUNK_PEAK_FIT STEYRBUNK_GAUSSIAN
+#define STEYRBUNK_THRESHOLD_REL 0.28f
+#define STEYRBUNK_NMS_RADIUS 4u
+#define STEYRBUNK_MIN_CLUSTER_SIZE 2u
+
+/* Values of peak_fit. */
+#define STEYRBUNK_PARABOLIC 0u
+#define STEYRBUNK_GAUSSIAN 1u
+
+/* Map and list of an image. Answers 0 to 9 and 14. */
+uint32_t steyrbunk_find(
+    const uint8_t *image, size_t image_len, /* pixels, 0 to 255, row after row; width times height of them */
+    size_t width, size_t height,            /* of the image, 0 to 4,096 each; a side of 0 finds nothing */
+    uint32_t ray_radius,                    /* half length of the four rays in working pixels, 0 to 7; 0 counts as 1 */
+    uint32_t image_upsample,                /* the factor: 0 counts as 1, 3 or more as 2 */
+    uint32_t response_blur_radius,          /* half size of the box that blurs the map, 0 to 3; 0 leaves it sharp */
+    uint32_t peak_fit,                      /* 0 parabolic, 1 Gaussian: how a place between pixels is fitted */
+    float threshold_rel,                    /* 0.0 to 1.0: corners are stronger than this part of the map's maximum */
+    uint32_t nms_radius,                    /* half size of the window that a corner is the greatest of, 0 to 32 working pixels */
+    uint32_t min_cluster_size,              /* positive values that this window must hold beside the corner's own */
+    uint8_t *working, size_t working_len,   /* gets the image at working resolution */
+    uint32_t *row_cumsum, size_t row_cumsum_len,           /* gets running sums along rows, */
+    uint32_t *col_cumsum, size_t col_cumsum_len,           /* columns, */
+    uint32_t *diag_pos_cumsum, size_t diag_pos_cumsum_len, /* falling diagonals (from x-1, y-1), */
+    uint32_t *diag_neg_cumsum, size_t diag_neg_cumsum_len, /* and rising ones (from x+1, y-1) */
+    float *response, size_t response_len,                  /* gets the map, blurred if so asked */
+    float *blur_scratch, size_t blur_scratch_len,          /* gets the map blurred along rows alone */
+    float *list, size_t list_len, /* gets x, y and strength of each corner in row order; room for list_len / 3 corners.
+                                     x and y are input pixels, whole numbers being middles of pixels; strength is the
+                                     map's value. Numbers beyond the last corner stay as they were. */
+    size_t *count,                /* gets the number of corners found, whether they fit or not; 0 with a refusal */
+    size_t *w, size_t *h          /* get W and H; 0 with a refusal */
+);
+
+/* The map alone. The arguments are those of steyrbunk_find; what only the list uses is absent.
+ * Answers 0, 2, 3, 4, 5, 6 and 9. */
+uint32_t steyrbunk_response(
+    const uint8_t *image, size_t image_len,
+    size_t width, size_t height,
+    uint32_t ray_radius,
+    uint32_t image_upsample,
+    uint32_t response_blur_radius,
+    uint8_t *working, size_t working_len,
+    uint32_t *row_cumsum, size_t row_cumsum_len,
+    uint32_t *col_cumsum, size_t col_cumsum_len,
+    uint32_t *diag_pos_cumsum, size_t diag_pos_cumsum_len,
+    uint32_t *diag_neg_cumsum, size_t diag_neg_cumsum_len,
+    float *response, size_t response_len,
+    float *blur_scratch, size_t blur_scratch_len,
+    size_t *w, size_t *h
+);
+
+/* The list of a map, which is only read. Settings and list are those of steyrbunk_find.
+ * Answers 0 and 1; 2 for w or h over 8,192; 4 for w*h over 8,388,608; 5 to 8; 9 for a response or an
+ * image shorter than w*h; 14. */
+uint32_t steyrbunk_peaks(
+    const float *response, size_t response_len, /* the map, as steyrbunk_response left it */
+    const uint8_t *image, size_t image_len,     /* the working image that belongs to it */
+    size_t w, size_t h,                         /* W and H of both */
+    uint32_t ray_radius,
+    uint32_t image_upsample,                    /* places are divided by the factor */
+    uint32_t response_blur_radius,              /* not used, but refused over 3 */
+    uint32_t peak_fit,
+    float threshold_rel,
+    uint32_t nms_radius,
+    uint32_t min_cluster_size,
+    float *list, size_t list_len,
+    size_t *count
+);
+
+#ifdef __cplusplus
+}
+#endif
+
+#endif

@@ -1,0 +1,222 @@
+//! The finder that owns its buffers and gives back an owned list.
+
+use crate::lent::{self, Answer, Image, View};
+use crate::refusal::Refusal;
+use crate::settings::Settings;
+
+/// Sizes past these are refused by the library; nothing is allocated for them.
+const GREATEST_SIDE: usize = 4_096;
+const GREATEST_WORKING: usize = 8_388_608;
+/// Corners that a new list has room for; it grows when a frame has more.
+const FIRST_ROOM: usize = 1_024;
+
+/// A corner: its place in input pixels, a pixel's middle being a whole number, and its map value.
+#[derive(Clone, Copy, Debug, PartialEq)]
+pub struct Corner {
+    pub x: f32,
+    pub y: f32,
+    pub strength: f32,
+}
+
+impl Corner {
+    /// x, y and strength as they are printed and compared.
+    pub fn bits(&self) -> [u32; 3] {
+        [self.x, self.y, self.strength].map(f32::to_bits)
+    }
+}
+
+/// All corners of a frame in row order, and the working sizes.
+#[derive(Clone, Debug, PartialEq)]
+pub struct Found {
+    pub corners: Vec<Corner>,
+    pub width: usize,
+    pub height: usize,
+}
+
+/// Everything behind a list, at working resolution, row after row; the slices are the finder's own.
+#[derive(Clone, Copy, Debug)]
+pub struct Map<'a> {
+    pub width: usize,
+    pub height: usize,
+    pub working: &'a [u8],
+    pub row_cumsum: &'a [u32],
+    pub col_cumsum: &'a [u32],
+    pub diag_pos_cumsum: &'a [u32],
+    pub diag_neg_cumsum: &'a [u32],
+    pub response: &'a [f32],
+    /// Empty where the map is not blurred.
+    pub blur_scratch: &'a [f32],
+}
+
+impl<'a> Map<'a> {
+    pub fn view(&self) -> View<'a> {
+        View {
+            response: self.response,
+            working: self.working,
+            width: self.width,
+            height: self.height,
+        }
+    }
+}
+
+/// Finds corners in one frame after another and keeps the buffers, which are never cleared.
+#[derive(Default)]
+pub struct Finder {
+    buffers: Buffers,
+    list: Vec<f32>,
+    last: Sizes,
+}
+
+/// Working sizes of the last image, and whether its map was blurred.
+#[derive(Clone, Copy, Default)]
+struct Sizes {
+    width: usize,
+    height: usize,
+    blurred: bool,
+}
+
+#[derive(Default)]
+struct Buffers {
+    working: Vec<u8>,
+    tables: [Vec<u32>; 4],
+    response: Vec<f32>,
+    blur_scratch: Vec<f32>,
+}
+
+/// A longer buffer in place of one that is too short; nothing of the old one is copied.
+fn grow<T: Copy + Default>(buffer: &mut Vec<T>, length: usize) {
+    if buffer.len() < length {
+        *buffer = Vec::new();
+        *buffer = vec![T::default(); length];
+    }
+}
+
+impl Buffers {
+    fn grow(&mut self, pixels: usize) {
+        grow(&mut self.working, pixels);
+        self.tables.iter_mut().for_each(|table| grow(table, pixels));
+        grow(&mut self.response, pixels);
+        grow(&mut self.blur_scratch, pixels);
+    }
+
+    fn lend(&mut self) -> lent::Buffers<'_> {
+        let [row, col, diag_pos, diag_neg] = &mut self.tables;
+        lent::Buffers {
+            working: &mut self.working,
+            row_cumsum: row,
+            col_cumsum: col,
+            diag_pos_cumsum: diag_pos,
+            diag_neg_cumsum: diag_neg,
+            response: &mut self.response,
+            blur_scratch: &mut self.blur_scratch,
+        }
+    }
+
+    fn map(&self, sizes: Sizes) -> Map<'_> {
+        let pixels = sizes.width * sizes.height;
+        let [row, col, diag_pos, diag_neg] = &self.tables;
+        Map {
+            width: sizes.width,
+            height: sizes.height,
+            working: &self.working[..pixels],
+            row_cumsum: &row[..pixels],
+            col_cumsum: &col[..pixels],
+            diag_pos_cumsum: &diag_pos[..pixels],
+            diag_neg_cumsum: &diag_neg[..pixels],
+            response: &self.response[..pixels],
+            blur_scratch: &self.blur_scratch[..if sizes.blurred { pixels } else { 0 }],
+        }
+    }
+}
+
+/// Working pixels of an image whose sizes are taken; else 0, and the library says why not.
+fn working_pixels(image: Image, factor: usize) -> usize {
+    let (width, height) = (image.width, image.height);
+    if width > GREATEST_SIDE || height > GREATEST_SIDE || image.pixels.len() != width * height {
+        return 0;
+    }
+    let pixels = width * height * factor * factor;
+    if pixels > GREATEST_WORKING {
+        0
+    } else {
+        pixels
+    }
+}
+
+fn corners(list: &[f32], count: usize) -> Vec<Corner> {
+    let corner = |place: &[f32]| Corner {
+        x: place[0],
+        y: place[1],
+        strength: place[2],
+    };
+    list.chunks_exact(3).take(count).map(corner).collect()
+}
+
+/// All corners of a map, in a list that grows until they fit.
+fn listed(list: &mut Vec<f32>, view: View, settings: &Settings) -> Result<Vec<Corner>, Refusal> {
+    loop {
+        let answer = lent::peaks(view, settings, list).accepted()?;
+        if answer.number != Answer::LIST_FULL {
+            return Ok(corners(list, answer.count));
+        }
+        grow(list, 3 * answer.count);
+    }
+}
+
+impl Finder {
+    pub fn new() -> Self {
+        Self::default()
+    }
+
+    /// All corners of an image.
+    pub fn find(&mut self, image: Image, settings: &Settings) -> Result<Found, Refusal> {
+        self.prepare(image, settings);
+        grow(&mut self.list, 3 * FIRST_ROOM);
+        let answer = lent::find(image, settings, self.buffers.lend(), &mut self.list).accepted()?;
+        self.keep(answer, settings);
+        let corners = if answer.number == Answer::LIST_FULL {
+            // The map stands already; only the list is made again.
+            grow(&mut self.list, 3 * answer.count);
+            listed(&mut self.list, self.buffers.map(self.last).view(), settings)?
+        } else {
+            corners(&self.list, answer.count)
+        };
+        Ok(Found {
+            corners,
+            width: answer.width,
+            height: answer.height,
+        })
+    }
+
+    /// The map of an image; the settings that only the list uses are not looked at.
+    pub fn response(&mut self, image: Image, settings: &Settings) -> Result<Map<'_>, Refusal> {
+        self.prepare(image, settings);
+        let answer = lent::response(image, settings, self.buffers.lend()).accepted()?;
+        self.keep(answer, settings);
+        Ok(self.map())
+    }
+
+    /// The list of any map and working image.
+    pub fn peaks(&mut self, view: View, settings: &Settings) -> Result<Vec<Corner>, Refusal> {
+        grow(&mut self.list, 3 * FIRST_ROOM);
+        listed(&mut self.list, view, settings)
+    }
+
+    /// The map of the last image, empty if it was refused.
+    pub fn map(&self) -> Map<'_> {
+        self.buffers.map(self.last)
+    }
+
+    fn prepare(&mut self, image: Image, settings: &Settings) {
+        self.last = Sizes::default();
+        self.buffers.grow(working_pixels(image, settings.factor()));
+    }
+
+    fn keep(&mut self, answer: Answer, settings: &Settings) {
+        self.last = Sizes {
+            width: answer.width,
+            height: answer.height,
+            blurred: settings.response_blur_radius != 0,
+        };
+    }
+}

@@ -1,0 +1,190 @@
+//! Safe calls over buffers that the caller lends: the C interface with slices for pointers.
+
+use crate::raw;
+use crate::refusal::Refusal;
+use crate::settings::Settings;
+
+/// Eight-bit pixels, row after row.
+#[derive(Clone, Copy, Debug)]
+pub struct Image<'a> {
+    pub pixels: &'a [u8],
+    pub width: usize,
+    pub height: usize,
+}
+
+/// Every buffer but the list; each needs an entry a working pixel.
+pub struct Buffers<'a> {
+    pub working: &'a mut [u8],
+    pub row_cumsum: &'a mut [u32],
+    pub col_cumsum: &'a mut [u32],
+    pub diag_pos_cumsum: &'a mut [u32],
+    pub diag_neg_cumsum: &'a mut [u32],
+    pub response: &'a mut [f32],
+    pub blur_scratch: &'a mut [f32],
+}
+
+/// A response and the working image it belongs to.
+#[derive(Clone, Copy, Debug)]
+pub struct View<'a> {
+    pub response: &'a [f32],
+    pub working: &'a [u8],
+    pub width: usize,
+    pub height: usize,
+}
+
+/// Document 01's number, the corners found, and the working sizes; the last three are 0 with a refusal.
+#[derive(Clone, Copy, Debug, Default, PartialEq, Eq)]
+pub struct Answer {
+    pub number: u32,
+    pub count: usize,
+    pub width: usize,
+    pub height: usize,
+}
+
+impl Answer {
+    /// All corners are in the list.
+    pub const COMPLETE: u32 = 0;
+    /// There are more corners than the list has room for.
+    pub const LIST_FULL: u32 = 1;
+
+    pub fn accepted(self) -> Result<Answer, Refusal> {
+        match self.number {
+            Answer::COMPLETE | Answer::LIST_FULL => Ok(self),
+            number => Err(Refusal::from_number(number)),
+        }
+    }
+}
+
+/// What count and sizes hold before a call: the library writes them with every answer, so this is never seen.
+const UNWRITTEN: usize = usize::MAX;
+
+/// An entry that takes an image and the buffers; what else it takes stands between them and behind.
+macro_rules! call {
+    ($entry:ident, $image:ident, $settings:ident, [$($between:expr),*], $lent:ident, [$($behind:expr),*]) => {
+        // SAFETY: each pointer comes with the length of the slice it was taken from, the slices that
+        // are written are borrowed exclusively, and the library touches nothing beyond them.
+        unsafe {
+            raw::$entry(
+                $image.pixels.as_ptr(),
+                $image.pixels.len(),
+                $image.width,
+                $image.height,
+                $settings.ray_radius,
+                $settings.image_upsample,
+                $settings.response_blur_radius,
+                $($between,)*
+                $lent.working.as_mut_ptr(),
+                $lent.working.len(),
+                $lent.row_cumsum.as_mut_ptr(),
+                $lent.row_cumsum.len(),
+                $lent.col_cumsum.as_mut_ptr(),
+                $lent.col_cumsum.len(),
+                $lent.diag_pos_cumsum.as_mut_ptr(),
+                $lent.diag_pos_cumsum.len(),
+                $lent.diag_neg_cumsum.as_mut_ptr(),
+                $lent.diag_neg_cumsum.len(),
+                $lent.response.as_mut_ptr(),
+                $lent.response.len(),
+                $lent.blur_scratch.as_mut_ptr(),
+                $lent.blur_scratch.len(),
+                $($behind),*
+            )
+        }
+    };
+}
+
+/// Map and list of an image; the list takes three numbers a corner.
+pub fn find(image: Image, settings: &Settings, lent: Buffers, list: &mut [f32]) -> Answer {
+    find_by(
+        settings.peak_fit.number().into(),
+        image,
+        settings,
+        lent,
+        list,
+    )
+}
+
+/// The same with the mode as a number, which may be one that is refused.
+pub fn find_by(
+    mode: u32,
+    image: Image,
+    settings: &Settings,
+    lent: Buffers,
+    list: &mut [f32],
+) -> Answer {
+    let (mut count, mut width, mut height) = (UNWRITTEN, UNWRITTEN, UNWRITTEN);
+    let number = call!(
+        steyrbunk_find,
+        image,
+        settings,
+        [
+            mode,
+            settings.threshold_rel,
+            settings.nms_radius,
+            settings.min_cluster_size
+        ],
+        lent,
+        [
+            list.as_mut_ptr(),
+            list.len(),
+            &mut count,
+            &mut width,
+            &mut height
+        ]
+    );
+    Answer {
+        number,
+        count,
+        width,
+        height,
+    }
+}
+
+/// The map of an image; of the settings only the first three are looked at.
+pub fn response(image: Image, settings: &Settings, lent: Buffers) -> Answer {
+    let (mut width, mut height) = (UNWRITTEN, UNWRITTEN);
+    let number = call!(
+        steyrbunk_response,
+        image,
+        settings,
+        [],
+        lent,
+        [&mut width, &mut height]
+    );
+    Answer {
+        number,
+        count: 0,
+        width,
+        height,
+    }
+}
+
+/// The list of a map; the answer's sizes are 0.
+pub fn peaks(view: View, settings: &Settings, list: &mut [f32]) -> Answer {
+    let mut answer = Answer {
+        count: UNWRITTEN,
+        ..Answer::default()
+    };
+    // SAFETY: as above.
+    answer.number = unsafe {
+        raw::steyrbunk_peaks(
+            view.response.as_ptr(),
+            view.response.len(),
+            view.working.as_ptr(),
+            view.working.len(),
+            view.width,
+            view.height,
+            settings.ray_radius,
+            settings.image_upsample,
+            settings.response_blur_radius,
+            settings.peak_fit.number().into(),
+            settings.threshold_rel,
+            settings.nms_radius,
+            settings.min_cluster_size,
+            list.as_mut_ptr(),
+            list.len(),
+            &mut answer.count,
+        )
+    };
+    answer
+}

@@ -1,0 +1,18 @@
+//! The proved corner finder for a host that owns memory: safe calls, an owned list, typed refusals.
+//!
+//! [`Finder`] keeps the buffers, 25 bytes a working pixel, from frame to frame. [`lent`] is the layer
+//! beneath it, where the caller lends each buffer; [`raw`] is the C interface itself.
+
+mod finder;
+pub mod frame;
+pub mod lent;
+mod printed;
+pub mod raw;
+mod refusal;
+mod settings;
+
+pub use finder::{Corner, Finder, Found, Map};
+pub use lent::Image;
+pub use printed::printed;
+pub use refusal::Refusal;
+pub use settings::{PeakFit, Settings};

@@ -1,0 +1,68 @@
+//! The settings of a call.
+
+/// How a peak is fitted between pixels.
+#[derive(Clone, Copy, Debug, PartialEq, Eq)]
+pub enum PeakFit {
+    /// A parabola through the three values.
+    Parabolic,
+    /// A parabola through their logarithms.
+    Gaussian,
+}
+
+impl PeakFit {
+    /// The number in a frame file and in the C interface.
+    pub fn number(self) -> u8 {
+        match self {
+            PeakFit::Parabolic => 0,
+            PeakFit::Gaussian => 1,
+        }
+    }
+
+    pub fn from_number(number: u8) -> Option<PeakFit> {
+        match number {
+            0 => Some(PeakFit::Parabolic),
+            1 => Some(PeakFit::Gaussian),
+            _ => None,
+        }
+    }
+}
+
+/// Radii are working-resolution pixels. What is out of range is refused by the call, not here.
+#[derive(Clone, Copy, Debug, PartialEq)]
+pub struct Settings {
+    /// 0 to 7; 0 counts as 1.
+    pub ray_radius: u32,
+    /// 0 counts as 1, 3 or more as 2.
+    pub image_upsample: u32,
+    /// 0 to 3; 0 leaves the map unblurred.
+    pub response_blur_radius: u32,
+    pub peak_fit: PeakFit,
+    /// 0.0 to 1.0: the floor as a fraction of the map's maximum.
+    pub threshold_rel: f32,
+    /// 0 to 32.
+    pub nms_radius: u32,
+    /// Positive values that a corner's window must hold beside its own.
+    pub min_cluster_size: u32,
+}
+
+impl Default for Settings {
+    /// The defaults of `RadonDetectorParams`.
+    fn default() -> Self {
+        Settings {
+            ray_radius: 4,
+            image_upsample: 2,
+            response_blur_radius: 1,
+            peak_fit: PeakFit::Gaussian,
+            threshold_rel: 0.28,
+            nms_radius: 4,
+            min_cluster_size: 2,
+        }
+    }
+}
+
+impl Settings {
+    /// The upsampling factor in force, 1 or 2.
+    pub fn factor(&self) -> usize {
+        self.image_upsample.clamp(1, 2) as usize
+    }
+}

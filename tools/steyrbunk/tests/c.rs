@@ -1,0 +1,182 @@
+//! The header and the C example: compiled, linked with the archive, and run.
+
+mod common;
+
+use std::fmt::Write as _;
+use std::io::Write as _;
+use std::path::{Path, PathBuf};
+use std::process::{Command, Output, Stdio};
+use std::{env, fs};
+
+use common::{frame, image};
+use judge::{Frame, Kind};
+use steyrbunk::{Finder, Settings};
+
+/// The example as a program, with the sanitizers if this compiler has them; nothing without a compiler.
+fn compiled(name: &str) -> Option<PathBuf> {
+    let package = Path::new(env!("CARGO_MANIFEST_DIR"));
+    let program = Path::new(env!("CARGO_TARGET_TMPDIR")).join(name);
+    let with = |flags: &[&str]| {
+        let mut cc = Command::new(env::var("CC").unwrap_or("cc".to_string()));
+        cc.args([
+            "-std=c99",
+            "-Wall",
+            "-Wextra",
+            "-Wpedantic",
+            "-Werror",
+            "-O1",
+        ])
+        .args(flags);
+        cc.arg("-I")
+            .arg(package.join("include"))
+            .arg(package.join("examples/corners.c"));
+        cc.arg(env!("STEYRBUNK_ARCHIVE"))
+            .args(["-lm", "-o"])
+            .arg(&program)
+            .output()
+            .ok()
+    };
+    let sanitized = with(&["-fsanitize=address,undefined"])?;
+    if !sanitized.status.success() {
+        let plain = with(&[])?;
+        assert!(
+            plain.status.success(),
+            "{}",
+            String::from_utf8_lossy(&plain.stderr)
+        );
+    }
+    Some(program)
+}
+
+fn run(program: &Path, input: &[u8]) -> Output {
+    let mut child = Command::new(program)
+        .stdin(Stdio::piped())
+        .stdout(Stdio::piped())
+        .stderr(Stdio::piped())
+        .spawn()
+        .expect("the program starts");
+    child
+        .stdin
+        .take()
+        .expect("piped")
+        .write_all(input)
+        .expect("it reads");
+    child.wait_with_output().expect("it ends")
+}
+
+fn pgm(frame: &Frame) -> Vec<u8> {
+    let head = format!("P5\n{} {}\n255\n", frame.width, frame.height);
+    [head.as_bytes(), &frame.pixels].concat()
+}
+
+#[test]
+fn the_example() {
+    let Some(program) = compiled("corners") else {
+        eprintln!("no C compiler: skipped");
+        return;
+    };
+    let board = frame(Kind::Board, 200, 150);
+    let found = Finder::new()
+        .find(image(&board), &Settings::default())
+        .expect("accepted");
+    assert!(!found.corners.is_empty());
+    let output = run(&program, &pgm(&board));
+    let text = String::from_utf8(output.stdout).expect("text");
+    let mut lines = text.lines();
+    assert_eq!(
+        lines.next(),
+        Some(format!("{} corners", found.corners.len()).as_str())
+    );
+    for (line, corner) in lines.by_ref().zip(&found.corners) {
+        let bits: Vec<u32> = line
+            .split(' ')
+            .map(|word| word.parse::<f32>().expect("a float").to_bits())
+            .collect();
+        assert_eq!(bits, corner.bits());
+    }
+    assert_eq!(lines.next(), None);
+    assert!(output.status.success());
+
+    let mut cut = pgm(&board);
+    cut.pop();
+    let output = run(&program, &cut);
+    assert_eq!(
+        (output.stdout.as_slice(), output.stderr.as_slice()),
+        (&b""[..], &b"refused 3\n"[..])
+    );
+    assert_eq!(run(&program, b"P5 0 0 255\n").stdout, b"0 corners\n");
+}
+
+/// Name, order and type of every argument are the same in the header and in the Rust declarations.
+#[test]
+fn the_header_and_the_declarations() {
+    let package = Path::new(env!("CARGO_MANIFEST_DIR"));
+    let read = |name: &str| fs::read_to_string(package.join(name)).expect("it is there");
+    let (header, raw) = (read("include/steyrbunk.h"), read("src/raw.rs"));
+    for name in ["steyrbunk_find", "steyrbunk_response", "steyrbunk_peaks"] {
+        assert_eq!(in_c(&header, name), in_rust(&raw, name));
+    }
+}
+
+/// What stands between a function's name and the end of its arguments.
+fn arguments<'a>(text: &'a str, before: &str, name: &str) -> &'a str {
+    let open = format!("{before}{name}(");
+    let from = text.find(&open).expect("declared") + open.len();
+    let until = text[from..].find(if before.starts_with("pub") {
+        ") ->"
+    } else {
+        ");"
+    });
+    &text[from..from + until.expect("closed")]
+}
+
+fn in_c(header: &str, name: &str) -> String {
+    let mut plain = String::new();
+    let mut rest = arguments(header, "uint32_t ", name);
+    while let Some((before, comment)) = rest.split_once("/*") {
+        plain.push_str(before);
+        rest = comment.split_once("*/").expect("a closed comment").1;
+    }
+    plain.push_str(rest);
+    let mut list = String::new();
+    for argument in plain.split(',') {
+        let words = argument.split_whitespace().collect::<Vec<_>>().join(" ");
+        let (kind, name) = words.rsplit_once(' ').expect("type and name");
+        let (pointer, name) = (name.starts_with('*'), name.trim_start_matches('*'));
+        writeln!(
+            list,
+            "{name}: {}",
+            if pointer {
+                format!("{kind} *")
+            } else {
+                kind.to_string()
+            }
+        )
+        .unwrap();
+    }
+    list
+}
+
+fn in_rust(raw: &str, name: &str) -> String {
+    let mut list = String::new();
+    let words = |kind: &str| match kind {
+        "u8" => "uint8_t",
+        "u32" => "uint32_t",
+        "usize" => "size_t",
+        "f32" => "float",
+        other => panic!("{other}"),
+    };
+    for argument in arguments(raw, "pub fn ", name).split(',') {
+        let Some((name, kind)) = argument.trim().split_once(": ") else {
+            continue;
+        };
+        let kind = match kind.split_once(' ') {
+            None => words(kind).to_string(),
+            Some(("*const", kind)) => format!("const {} *", words(kind)),
+            Some(("*mut", kind)) => format!("{} *", words(kind)),
+            _ => panic!("{kind}"),
+        };
+        writeln!(list, "{name}: {kind}").unwrap();
+    }
+    list
+}
