@@ -15,7 +15,7 @@ use Rattle.params.specs.Answers.{numberOf}
 use Rattle.frame.specs.declared.Line.{Line}
 use Rattle.frame.specs.Printed.{refusedLine, firstLine, cornerLine, cornerLines, stored, fullLine, lastLines, printed}
 use Rattle.frame.specs.Lines.{lineOf, Shows}
-use Rattle.frame.specs.Appended.{blank, empty-len}
+use Rattle.frame.specs.Appended.{blank, shows}
 
 -- ---- the corners' lines
 
@@ -108,4 +108,4 @@ pub shows-as : {r : Line} {a b : List ℕ} → Shows a r → a ≡ b → Shows b
 shows-as {r} s e = subst (λ (t : List ℕ). Shows t r) e s
 
 pub shows-nothing : {r : Line} → r ≡ blank → Shows [] r
-shows-nothing e = record { is = e; fits = omega (arith, empty-len e) }
+shows-nothing e = shows [] e
