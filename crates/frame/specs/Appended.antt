@@ -1,8 +1,8 @@
 -- How a line is put together: text after text is appended to it. Assumes nothing.
-use mathlib.Core.Path.{_≡_, refl, sym, ap, _∙_}
+use mathlib.Core.Path.{_≡_, sym, ap, _∙_}
 use mathlib.Core.List.{List, [], _∷_, _++_, append-assoc}
 use Prim.Native.Nat.{ℕ, zero, suc, _+_, _-_, _≤_, _<_}
-use native.Mathlib.Nat.{add-assoc, add-suc, add-zero, zero-add, suc-sub-suc, sub-zero, zero-sub}
+use native.Mathlib.Nat.{add-assoc, add-zero, zero-add, suc-sub-suc, sub-zero, zero-sub}
 use native.Mathlib.Numerals.{add-one}
 use native.Mathlib.Omega.{arith}
 use lib.ListN.{length, getD, take, replicate, drop, length-append, length-replicate}
