@@ -6,7 +6,7 @@ use Prim.Native.Nat.{ℕ, zero, suc, _+_, _-_, _*_, _≤_, _<_}
 use native.Mathlib.Nat.{le-of-suc-le-suc, not-suc-le-zero, suc-mul, zero-mul, add-comm}
 use native.Mathlib.Omega.{arith}
 use borrow.Author.Tests.{lt-ltb, le-ltb, eq-eqb, ne-eqb}
-use lib.Dec.{ltb, eqb}
+use lib.Dec.{eqb}
 use lib.Ieee.{Float}
 use lib.ListN.{length, getD, take, drop, length-append, List·getD-append, List·getD-eq-default}
 use lib.Seq.{getD-append-add, drop-drop, drop-cons}
@@ -14,8 +14,8 @@ use Rattle.params.specs.declared.Outcome.{Outcome}
 use Rattle.params.specs.Answers.{numberOf}
 use Rattle.frame.specs.declared.Line.{Line}
 use Rattle.frame.specs.Printed.{refusedLine, firstLine, cornerLine, cornerLines, stored, fullLine, lastLines, printed}
-use Rattle.frame.specs.Lines.{lineOf, Shows}
-use Rattle.frame.specs.Appended.{blank, empty-len}
+use Rattle.frame.specs.Lines.{Shows}
+use Rattle.frame.specs.Appended.{blank, shows}
 
 -- ---- the corners' lines
 
@@ -108,4 +108,4 @@ pub shows-as : {r : Line} {a b : List ℕ} → Shows a r → a ≡ b → Shows b
 shows-as {r} s e = subst (λ (t : List ℕ). Shows t r) e s
 
 pub shows-nothing : {r : Line} → r ≡ blank → Shows [] r
-shows-nothing e = record { is = e; fits = omega (arith, empty-len e) }
+shows-nothing e = shows [] e

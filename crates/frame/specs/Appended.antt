@@ -1,8 +1,8 @@
 -- How a line is put together: text after text is appended to it. Assumes nothing.
-use mathlib.Core.Path.{_≡_, refl, sym, ap, _∙_}
+use mathlib.Core.Path.{_≡_, sym, ap, _∙_}
 use mathlib.Core.List.{List, [], _∷_, _++_, append-assoc}
 use Prim.Native.Nat.{ℕ, zero, suc, _+_, _-_, _≤_, _<_}
-use native.Mathlib.Nat.{add-assoc, add-suc, add-zero, zero-add, suc-sub-suc, sub-zero, zero-sub}
+use native.Mathlib.Nat.{add-assoc, add-zero, zero-add, suc-sub-suc, sub-zero, zero-sub}
 use native.Mathlib.Numerals.{add-one}
 use native.Mathlib.Omega.{arith}
 use lib.ListN.{length, getD, take, replicate, drop, length-append, length-replicate}
@@ -64,11 +64,12 @@ shown-at text h = λ j. record {
   len = zero-add (length text) j;
 }
 
+-- a line that is known lies within its array
+pub shows : (text : List ℕ) {r : Line} → r ≡ lineOf text → Shows text r
+shows text e = record { is = e; fits = rw e (omega (arith, length-append text (replicate (64 - length text) 0))) }
+
 pub shown : {k : ℕ} {text : List ℕ} {l r : Line} → l ≡ blank → Grown k l text r → k ≤ 64 → Shows text r
-shown {text = text} e g h =
-    let f : length text ≤ 64 = omega (arith, g .most) in
-    let i = g .is ∙ ap (λ (l : Line). appended l text) e ∙ shown-at text f in
-    record { is = i; fits = omega (arith, ap (λ (x : Line). x .len) i) }
+shown {text = text} e g h = shows text (g .is ∙ ap (λ (l : Line). appended l text) e ∙ shown-at text (omega (arith, g .most)))
 
 -- three fields make a line
 pub three-shown : {i j k : ℕ} {l m n r : Line} (a b c : List ℕ) → l ≡ blank → Grown i l (a ++ (32 ∷ [])) m → Grown j m (b ++ (32 ∷ [])) n → Grown k n (c ++ (10 ∷ [])) r

@@ -1,15 +1,15 @@
 -- A printed line as the library hands it out: an array of 64 bytes that begins with the line, and the line's length.
 use mathlib.Core.Path.{_≡_}
-use mathlib.Core.List.{List, [], _∷_, _++_}
-use Prim.Native.Nat.{ℕ, _+_, _-_, _≤_}
+use mathlib.Core.List.{List, _++_}
+use Prim.Native.Nat.{ℕ, _-_, _≤_}
 use lib.ListN.{length, replicate}
-use lib.Seq.{sets}
 use Rattle.frame.specs.declared.Line.{Line}
 
 -- the line, and zeros beyond it
 abbrev pub lineOf : List ℕ → Line
 lineOf text = record { bytes = text ++ replicate (64 - length text) 0; len = length text }
 
+-- the line, and, for whoever lends that part of the array, that it lies within it
 pub record Shows (text : List ℕ) (line : Line) : Type 0 where
   pub is : line ≡ lineOf text
-  pub fits : line .len ≤ 64
+  pub fits : line .len ≤ length (line .bytes)

@@ -2,16 +2,14 @@
 -- they have. Assumes nothing.
 use mathlib.Core.Path.{_≡_, refl, sym, ap, _∙_}
 use mathlib.Core.Bool.{Bool, true, false, _&&_}
-use mathlib.Core.Logic.{inl, inr}
 use mathlib.Core.List.{List, [], _∷_, _++_, map}
 use Prim.Native.Nat.{ℕ, zero, suc, _+_, _-_, _*_, _/_, _%_, _^_, _≤_, _<_}
-use native.Mathlib.Nat.{div-lt-self, div-le-self, div-lt-iff-lt-mul, div-add-mod', mod-lt, pow-zero, pow-suc, zero-mul, le-trans, le-div-iff-mul-le, one-mul}
+use native.Mathlib.Nat.{div-lt-self, div-le-self, div-lt-iff-lt-mul, div-add-mod', mod-lt, pow-zero, pow-suc, zero-mul, le-div-iff-mul-le, one-mul}
 use native.Mathlib.Omega.{arith}
 use native.Mathlib.Decide.{decLt}
 use borrow.Author.Tests.{ltb-true, ltb-false, leb-true, leb-false}
 use lib.Dec.{ltb, leb}
 use lib.ListN.{length, getD, length-append, List·getD-append}
-use lib.Seq.{getD-append-seam}
 use Rattle.frame.specs.Printed.{digitsIn, digits, digitOf, numeral}
 
 -- a single digit is enough

@@ -39,7 +39,9 @@ pub fn half(file: &[u8], at: usize) -> Field
     if file.len() < at + 2 {
         return Field::Refused;
     }
-    Field::Value(wide(file[at]) * 256 + wide(file[at + 1]))
+    let high = wide(file[at]);
+    let low = wide(file[at + 1]);
+    Field::Value(high * 256 + low)
 }
 
 // Four bytes, the highest first.

@@ -1,5 +1,5 @@
 -- `frame::line_at` meets its contract. Assumes nothing.
-use mathlib.Core.Path.{_≡_, refl, sym, ap, _∙_}
+use mathlib.Core.Path.{refl, sym, ap, _∙_}
 use native.Mathlib.Omega.{arith}
 use Rattle.frame.specs.Printed.{cornerLine}
 use Rattle.frame.proofs.Printing.{refused-at, refused-past, first-at, corner-line, three, full-at, none-at, past-at, shows-as, shows-nothing}

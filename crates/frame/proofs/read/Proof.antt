@@ -1,6 +1,4 @@
 -- `frame::read` meets its contract: the refusals in their order, each from what its reader ensures. Assumes nothing.
-use mathlib.Core.Path.{_≡_, refl, sym, _∙_}
-use native.Mathlib.Omega.{arith}
 use borrow.Author.Needs.{needs}
 use borrow.Author.Tests.{lt-ltb, le-ltb}
 use Rattle.frame.specs.FrameFile.{readOf}

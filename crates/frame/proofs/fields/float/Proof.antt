@@ -1,6 +1,6 @@
 -- `frame::fields::float` meets its contract: a pattern above infinity's, the sign apart, is a NaN's, and so is 0 / 0. Assumes nothing.
-use mathlib.Core.Path.{_≡_, refl, sym, ap, _∙_}
-use mathlib.Core.Bool.{Bool, true, false, not}
+use mathlib.Core.Path.{_≡_, refl, sym, _∙_}
+use mathlib.Core.Bool.{true, not}
 use Prim.Native.Nat.{ℕ, _≤_, _<_, _%_}
 use native.Mathlib.Omega.{arith}
 use borrow.Author.Needs.{needs}

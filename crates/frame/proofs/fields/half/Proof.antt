@@ -16,7 +16,7 @@ half-spec =
     (λ c κs. search needs)
     (λ c. search needs)
     (λ c. search needs)
-    (λ c. search needs)
     (λ c κs. search needs)
+    (λ c. search needs)
     (λ c. search needs)
     (λ c. passes _ _ (omega arith) (le-leb _ _ (c .before .before .before .before .if1 .left))))

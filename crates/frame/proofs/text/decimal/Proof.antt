@@ -1,7 +1,6 @@
 -- `frame::text::decimal` meets its contract: a machine number has at most 20 digits. Assumes nothing.
 use Prim.Native.Nat.{_^_, _≤_, _<_}
 use native.Mathlib.Omega.{arith}
-use borrow.Author.Needs.{needs}
 use lib.Dec.{lit≤}
 use Rattle.frame.proofs.Digits.{numeral-room, end-room, ended}
 use Rattle.frame.proofs.text.decimal.Statement.{statement}

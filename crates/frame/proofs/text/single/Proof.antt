@@ -1,5 +1,4 @@
 -- `frame::text::single` meets its contract. Assumes nothing.
-use borrow.Author.Needs.{needs}
 use borrow.Author.Tests.{lt-ltb, le-ltb}
 use Rattle.frame.proofs.text.single.Statement.{statement}
 use Rattle.frame.proofs.text.single.Tie as tie

@@ -1,10 +1,8 @@
 -- `frame::text::word` meets its contract: a pattern of 32 bits has at most eight digits. Assumes nothing.
-use mathlib.Core.Path.{_≡_, ap}
-use Prim.Native.Nat.{ℕ, _^_, _≤_, _<_}
+use Prim.Native.Nat.{_^_, _≤_, _<_}
 use native.Mathlib.Omega.{arith}
 use borrow.Author.Needs.{needs}
 use lib.Dec.{lit≤}
-use lib.Ieee.{binary32, toBits}
 use Rattle.frame.proofs.Digits.{numeral-room, end-room, ended}
 use Rattle.frame.proofs.text.word.Statement.{statement}
 use Rattle.frame.proofs.text.word.Tie as tie
