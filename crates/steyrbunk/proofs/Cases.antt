@@ -10,9 +10,11 @@ use Rattle.params.specs.declared.RadonDetectorParams.{RadonDetectorParams}
 use Rattle.params.specs.Answers.{numberOf, refused}
 use Rattle.detect.specs.Detected.{outcomeOf as peaksOutcome, listOf}
 use Rattle.radon.specs.Finder.{Buffers, outcomeOf, buffersOf}
+use Rattle.response.specs.declared.Mapped.{Mapped}
+use Rattle.response.specs.Map.{Buffers as MapBuffers, mappedOf, buffersOf as mapBuffersOf}
 use Rattle.steyrbunk.specs.declared.Settings.{Settings}
 use Rattle.steyrbunk.specs.declared.Settings.the-variants.{Given, NoSuchMode}
-use Rattle.steyrbunk.specs.Called.{Told, told, foundBy, leftBy, peaksBy, listBy}
+use Rattle.steyrbunk.specs.Called.{Told, told, MapTold, mapTold, foundBy, leftBy, peaksBy, listBy}
 
 -- t is what the numbers give, s what the code has of it, x what it told
 module _ {s : Settings} (t : Settings) (is : s ≡ t) where
@@ -33,3 +35,10 @@ module _ {s : Settings} (t : Settings) (is : s ≡ t) where
     pub peaks-refused : s ≡ NoSuchMode → n ≡ numberOf Mode → count ≡ 0
         → (n ≡ numberOf ((peaksBy t w h response image (length list)) .answer)) × (count ≡ (peaksBy t w h response image (length list)) .count) × (list ≡ listBy t w h response image list)
     peaks-refused g a k = (rw (← is, g) a, rw (← is, g) k, rw (← is, g))
+
+-- the map's entry was called by settings p that are those q of the promise
+pub map-told : (img : List ℕ) (w h : ℕ) (b : MapBuffers) {p q : RadonDetectorParams} {n : ℕ} {m : Mapped} {after : MapBuffers} → p ≡ q → n ≡ numberOf (m .answer)
+    → m ≡ mappedOf img w h p b → after ≡ mapBuffersOf img w h p b
+    → (_≡_ {A = MapTold} (record { number = n; w = m .w; h = m .h }) (mapTold (mappedOf img w h q b))) × (after ≡ mapBuffersOf img w h q b)
+map-told img w h b {m = m} e k u v =
+    ((λ i. record { number = k i; w = m .w; h = m .h }) ∙ ap mapTold (u ∙ ap (λ (p : RadonDetectorParams). mappedOf img w h p b) e), v ∙ ap (λ (p : RadonDetectorParams). mapBuffersOf img w h p b) e)
