@@ -29,12 +29,12 @@ module _ {s : Settings} (t : Settings) (is : s ≡ t) where
   module _ (w h : ℕ) (response : List Float) (image : List ℕ) (list : List Float) {n count : ℕ} where
     pub peaks-given : {p : RadonDetectorParams} {o : Outcome} {after : List Float} → s ≡ Given p → n ≡ numberOf (o .answer) → count ≡ o .count
         → o ≡ peaksOutcome p w h response image (length list) → after ≡ listOf p w h response image list
-        → (n ≡ numberOf ((peaksBy t w h response image (length list)) .answer)) × (count ≡ (peaksBy t w h response image (length list)) .count) × (after ≡ listBy t w h response image list)
-    peaks-given g a k e l = (rw (← is, g) (a ∙ ap (λ (o : Outcome). numberOf (o .answer)) e), rw (← is, g) (k ∙ ap (λ (o : Outcome). o .count) e), rw (← is, g) l)
+        → (n ≡ numberOf ((peaksBy t w h response image (length list)) .answer)) × ((count ≡ (peaksBy t w h response image (length list)) .count) × (after ≡ listBy t w h response image list))
+    peaks-given g a k e l = (rw (← is, g) (a ∙ ap (λ (o : Outcome). numberOf (o .answer)) e), (rw (← is, g) (k ∙ ap (λ (o : Outcome). o .count) e), rw (← is, g) l))
 
     pub peaks-refused : s ≡ NoSuchMode → n ≡ numberOf Mode → count ≡ 0
-        → (n ≡ numberOf ((peaksBy t w h response image (length list)) .answer)) × (count ≡ (peaksBy t w h response image (length list)) .count) × (list ≡ listBy t w h response image list)
-    peaks-refused g a k = (rw (← is, g) a, rw (← is, g) k, rw (← is, g))
+        → (n ≡ numberOf ((peaksBy t w h response image (length list)) .answer)) × ((count ≡ (peaksBy t w h response image (length list)) .count) × (list ≡ listBy t w h response image list))
+    peaks-refused g a k = (rw (← is, g) a, (rw (← is, g) k, rw (← is, g)))
 
 -- the map's entry was called by settings p that are those q of the promise
 pub map-told : (img : List ℕ) (w h : ℕ) (b : MapBuffers) {p q : RadonDetectorParams} {n : ℕ} {m : Mapped} {after : MapBuffers} → p ≡ q → n ≡ numberOf (m .answer)
