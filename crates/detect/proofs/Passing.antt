@@ -1,15 +1,19 @@
 -- How values at or under a floor are passed over: the steps behind `next_above` and `max_response`. Assumes nothing.
-use mathlib.Core.Path.{_≡_, refl, sym, _∙_}
+use mathlib.Core.Path.{_≡_, refl, sym, ap, _∙_}
+use mathlib.Core.Logic.{inl, inr}
 use mathlib.Core.Bool.{Bool, true, false, _||_, true≢false}
 use Prim.Native.Nat.{ℕ, zero, suc, _+_, _-_, _≤_, _<_}
 use native.Mathlib.Decide.{decLe}
 use native.Mathlib.Nat.{add-zero}
 use native.Mathlib.Omega.{arith}
-use lib.Ieee.{Float, lt}
+use mathlib.Core.List.{List}
+use lib.ListN.{length, take}
+use lib.Seq.{length-take-le, getD-take}
+use lib.Ieee.{Float, nan, lt}
 use Rattle.float.specs.Values.{f0}
 use Rattle.grid.specs.Fold.{fold, fold-none, fold-on}
 use Rattle.detect.specs.Corners.{greater}
-use Rattle.detect.specs.Above.{eight, None, Next}
+use Rattle.detect.specs.Above.{over, crest, Reached, eight, None, Next}
 
 -- the search has passed i
 pub record Passed (p : ℕ → Bool) (a e i : ℕ) : Type 0 where
@@ -70,6 +74,23 @@ module _ (p : ℕ → Bool) (a e : ℕ) where
 
   pub next-none : {i : ℕ} → Passed p a e i → e ≤ i → Next p a e e
   next-none {i} r b = record { least = omega arith; most = omega arith; none = λ k u v. r .none k u (omega arith); found = λ q. absurd (omega arith) }
+
+-- eight answers are the eight
+pub eight-is : (p : ℕ → Bool) (i : ℕ) {a b c d e f g h : Bool} → a ≡ p i → b ≡ p (i + 1) → c ≡ p (i + 2) → d ≡ p (i + 3) → e ≡ p (i + 4) → f ≡ p (i + 5) → g ≡ p (i + 6) → h ≡ p (i + 7)
+    → (((a || b) || c) || d) || (((e || f) || g) || h) ≡ eight p i
+eight-is p i a b c d e f g h = rw (a, b, c, d, e, f, g, h)
+
+-- ---- the next place that is worth a verdict
+
+pub reached-crest : (r : ℕ) (floor : Float) (s : List Float) {a e i : ℕ} → 0 < r → Next (crest floor s) a e i → Reached r floor s a e i
+reached-crest r floor s b t = record { least = t .least; most = t .most; none = λ k h l. inr (b, t .none k h l) }
+
+pub reached-above : (r : ℕ) (floor : Float) (s : List Float) {a e i : ℕ} → e ≤ length s → Next (over floor (take e s)) a (length (take e s)) i → Reached r floor s a e i
+reached-above r floor s {e = e} l t = record {
+  least = t .least;
+  most = omega (arith, length-take-le e s l);
+  none = λ k h b. inl (ap (lt floor) (sym (getD-take e s k nan (omega (arith, length-take-le e s l)))) ∙ t .none k h b);
+}
 
 -- ---- the greatest so far
 

@@ -1,7 +1,7 @@
 -- A candidate's verdict, a turn of the scan, a row and all rows: the steps behind `verdict` and `peaks`. Assumes nothing.
 use mathlib.Core.Path.{_≡_, refl, sym, ap, _∙_}
 use mathlib.Core.Logic.{_⊎_, inl, inr}
-use mathlib.Core.Bool.{Bool, true, false, not}
+use mathlib.Core.Bool.{Bool, true, false, not, _&&_, true≢false}
 use Prim.Native.Nat.{ℕ, _+_, _-_, _*_, _/_, _≤_, _<_, _^_}
 use native.Mathlib.Omega.{arith}
 use mathlib.Core.List.{List, [], _∷_}
@@ -15,7 +15,7 @@ use Rattle.float.specs.Values.{f0}
 use Rattle.grid.specs.Fold.{fold, fold-ext}
 use Rattle.grid.specs.Plane.{plane}
 use Rattle.grid.specs.Each.{keep-none}
-use Rattle.grid.specs.Rect.{Place, place, rect, Across, across-none, across-more, across-skip, down-more, Down, down-none, down-all, length-rect}
+use Rattle.grid.specs.Rect.{Place, place, rect, any-in, Across, across-none, across-more, across-skip, down-more, Down, down-none, down-all, length-rect}
 use Rattle.grid.specs.Over.{written, Listed, listed-none, Onward, onward-none, onward-no, onward-full, onward-put, sets-three}
 use Rattle.params.specs.declared.RadonDetectorParams.{RadonDetectorParams}
 use Rattle.params.specs.Settings.{rayOf}
@@ -26,8 +26,8 @@ use Rattle.detect.specs.Saddle.{saddleOf, saddleAt}
 use Rattle.detect.specs.Around.{Around}
 use Rattle.detect.specs.Window.{value, at, beaten, positives}
 use Rattle.detect.specs.PeakFit.{fitOf}
-use Rattle.detect.specs.Above.{entry, over, Next}
-use Rattle.detect.specs.Corners.{borderOf, candidates, greater, peak, floorOf, corners, firstFailing, isSaddle, verdict, stride, inputAt, numbers}
+use Rattle.detect.specs.Above.{entry, over, crest, Reached}
+use Rattle.detect.specs.Corners.{borderOf, candidates, greater, peak, floorOf, corners, firstFailing, isSaddle, isKept, verdict, stride, inputAt, numbers}
 use Rattle.detect.specs.Room.{Room}
 use Rattle.detect.proofs.Windows.{cross}
 use Rattle.detect.specs.Scan.{passes, RowFound, Candidate}
@@ -90,31 +90,62 @@ module _ (s : RadonDetectorParams) (l r : List Float) (n w : ℕ) {h x y : ℕ} 
       let d : y * w + x + w ≡ (y + 1) * w + x = omega arith in
       rw (sets-three, e3, e4, e1, e2, i, j, u, d)
 
--- ---- a run of places that are not above the floor
+-- ---- a run of places that cannot be kept
 
 pub not-above : (s : RadonDetectorParams) (floor : Float) (f : ℕ → ℕ → Float) (g : ℕ → ℕ → ℕ) (p : Place) → lt floor (at f p) ≡ false → passes s floor f g p ≡ false
 unfolding verdict
 not-above s floor f g p e = rw e
 
--- the part of row y that the code searches, b columns short of its end
-abbrev pub rowPart : List Float → ℕ → ℕ → ℕ → List Float
-rowPart r w y b = take (y * w + (w - b) - y * w) (drop (y * w) r)
+-- what is beaten is not kept
+beaten-out : (s : RadonDetectorParams) (floor : Float) (f : ℕ → ℕ → Float) (g : ℕ → ℕ → ℕ) (p : Place) → beaten f (s .«nms_radius») p ≡ true → passes s floor f g p ≡ false
+unfolding verdict
+beaten-out s floor f g p e = rw e (go (lt floor (at f p)))
+  where
+    go : (a : Bool) → isKept (firstFailing a false (leb (s .«min_cluster_size») (positives f (s .«nms_radius») p)) (isSaddle s g p)) ≡ false
+    go true = refl
+    go false = refl
 
-module _ (r : List Float) (w y b : ℕ) (fits : y * w + w ≤ length r) where
-  pub row-length : length (rowPart r w y b) ≡ w - b
+-- three tests of which one fails
+fails : (a l r : Bool) → (a && (not l && not r)) ≡ false → (a ≡ false) ⊎ ((l ≡ true) ⊎ (r ≡ true))
+fails false l r h = inl refl
+fails true true r h = inr (inl refl)
+fails true false true h = inr (inr refl)
+fails true false false h = absurd (true≢false h)
+
+-- row y, as a part of the map
+abbrev pub rowPart : List Float → ℕ → ℕ → List Float
+rowPart r w y = take (y * w + w - y * w) (drop (y * w) r)
+
+module _ (r : List Float) (w y : ℕ) (fits : y * w + w ≤ length r) where
+  pub row-length : length (rowPart r w y) ≡ w
   row-length = simp (length-take, length-drop) (omega arith)
 
-  row-value : (k : ℕ) → k < w - b → entry (rowPart r w y b) k ≡ value r w k y
-  row-value k l = getD-take (y * w + (w - b) - y * w) (drop (y * w) r) k nan (omega arith) ∙ getD-drop (y * w) r k nan
+  row-value : (k : ℕ) → k < w → entry (rowPart r w y) k ≡ value r w k y
+  row-value k l = getD-take (y * w + w - y * w) (drop (y * w) r) k nan (omega arith) ∙ getD-drop (y * w) r k nan
 
-  module _ {s : RadonDetectorParams} {floor : Float} {h : ℕ} {g : ℕ → ℕ → ℕ} {mid : List Float} {m : ℕ} {out : List Float} {n x a i : ℕ}
-      (c : Scanned s floor w h (value r w) g y mid m out n x) (e : b ≡ borderOf s) (j : a ≡ x) (t : Next (over floor (rowPart r w y b)) a (length (rowPart r w y b)) i) where
+  module _ (s : RadonDetectorParams) (floor : Float) (g : ℕ → ℕ → ℕ) where
+    -- less than a neighbour that the window has
+    beside : (k : ℕ) → 0 < s .«nms_radius» → 0 < k → k + 1 < w → crest floor (rowPart r w y) k ≡ false → passes s floor (value r w) g (place k y) ≡ false
+    unfolding beaten
+    beside k b h l e = elim (fails (over floor (rowPart r w y) k) (lt (entry (rowPart r w y) k) (entry (rowPart r w y) (k - 1))) (lt (entry (rowPart r w y) k) (entry (rowPart r w y) (k + 1))) e) [
+      | inl t ↦ not-above s floor (value r w) g (place k y) (rw (row-value k (omega arith)) at t)
+      | inr t ↦ beaten-out s floor (value r w) g (place k y) (elim t [
+        | inl u ↦ any-in _ _ _ _ _ (k - 1) y (omega arith) (omega arith) (omega arith) (omega arith) (rw (row-value k (omega arith), row-value (k - 1) (omega arith)) at u)
+        | inr u ↦ any-in _ _ _ _ _ (k + 1) y (omega arith) (omega arith) (omega arith) (omega arith) (rw (row-value k (omega arith), row-value (k + 1) l) at u)
+      ])
+    ]
+
+  module _ {s : RadonDetectorParams} {floor : Float} {h : ℕ} {g : ℕ → ℕ → ℕ} {mid : List Float} {m : ℕ} {out : List Float} {n x a e i : ℕ}
+      (c : Scanned s floor w h (value r w) g y mid m out n x) (j : a ≡ x) (q : e ≡ w - borderOf s) (t : Reached (s .«nms_radius») floor (rowPart r w y) a e i) where
+    -- a run of places that cannot be kept
     pub run-over : Scanned s floor w h (value r w) g y mid m out n i
     run-over =
-        let q : x + (i - x) ≡ i = omega arith in
+        let o : x + (i - x) ≡ i = omega arith in
         record {
-          across = rw q at (across-skip _ _ _ _ _ (i - x) (c .across) (omega (arith, row-length)) (λ k u v o. onward-no _ _ _ _ _ _ _ _ o
-              (not-above s floor (value r w) g (place k y) (ap (lt floor) (sym (row-value k (omega (arith, row-length)))) ∙ t .none k (omega arith) (omega arith)))));
+          across = rw o at (across-skip _ _ _ _ _ (i - x) (c .across) (omega arith) (λ k u v p. onward-no _ _ _ _ _ _ _ _ p (elim (t .none k (omega arith) (omega arith)) [
+            | inl z ↦ not-above s floor (value r w) g (place k y) (rw (row-value k (omega arith)) at z)
+            | inr z ↦ beside s floor g k (z .0) (omega arith) (omega arith) (z .1)
+          ])));
           few = omega arith;
         }
 

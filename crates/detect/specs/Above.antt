@@ -1,7 +1,8 @@
--- What `above` hands on: the first entry above a floor.
+-- What `above` hands on: the first entry above a floor, and the next that is worth a verdict.
 use mathlib.Core.Path.{_≡_}
-use mathlib.Core.Bool.{Bool, true, false, _||_}
-use Prim.Native.Nat.{ℕ, _+_, _≤_, _<_}
+use mathlib.Core.Logic.{_⊎_}
+use mathlib.Core.Bool.{Bool, true, false, not, _||_, _&&_}
+use Prim.Native.Nat.{ℕ, _+_, _-_, _≤_, _<_}
 use mathlib.Core.List.{List}
 use lib.ListN.{getD}
 use lib.Ieee.{Float, nan, lt}
@@ -12,6 +13,10 @@ entry s k = getD s k nan
 -- entry k is above the floor
 abbrev pub over : Float → List Float → ℕ → Bool
 over floor s k = lt floor (entry s k)
+
+-- and no less than its two neighbours
+abbrev pub crest : Float → List Float → ℕ → Bool
+crest floor s k = over floor s k && (not (lt (entry s k) (entry s (k - 1))) && not (lt (entry s k) (entry s (k + 1))))
 
 -- one of the eight from i on, grouped as the code has them
 abbrev pub eight : (ℕ → Bool) → ℕ → Bool
@@ -27,3 +32,9 @@ pub record Next (p : ℕ → Bool) (a e r : ℕ) : Type 0 where
   pub most : r ≤ e
   pub none : None p a r
   pub found : r < e → p r ≡ true
+
+-- i is reached from a, and what is passed is not above the floor or, where r is not 0, less than a neighbour
+pub record Reached (r : ℕ) (floor : Float) (s : List Float) (a e i : ℕ) : Type 0 where
+  pub least : a ≤ i
+  pub most : i ≤ e
+  pub none : (k : ℕ) → a ≤ k → k < i → (over floor s k ≡ false) ⊎ ((0 < r) × (crest floor s k ≡ false))

@@ -1,10 +1,10 @@
-// Values at or under a floor are passed over eight at a time. The window test, the maximum and the scan all stand on this.
+// Values that cannot matter are passed over eight at a time. The window test, the maximum and the scan all stand on this.
 ghost use mathlib.Core.Path.{_≡_};
-ghost use Prim.Native.Nat.{_+_, _≤_};
+ghost use Prim.Native.Nat.{_+_, _≤_, _<_};
 ghost use lib.ListN.{length};
 ghost use Rattle.grid.specs.Fold.{fold};
 ghost use Rattle.float.specs.Values.{f0};
-ghost use Rattle.detect.specs.Above.{entry, over, eight, Next};
+ghost use Rattle.detect.specs.Above.{entry, over, crest, eight, Next, Reached};
 ghost use Rattle.detect.specs.Corners.{greater};
 
 // Whether one of the eight values from i on is above the floor. All eight are compared, so that no branch stands between them.
@@ -36,6 +36,55 @@ pub fn next_above(s: &[f32], from: usize, floor: f32) -> usize
         i += 1;
     }
     n
+}
+
+// Whether the value at k is above the floor, and neither neighbour in the row is greater. No branch stands between the three.
+fn is_crest(s: &[f32], k: usize, floor: f32) -> bool
+    requires { ⌜ (1 ≤ k) × (k + 1 < length (now s)) ⌝ }
+    ensures { λ r. ⌜ r ≡ crest floor (now (s .entry)) k ⌝ }
+{
+    (s[k] > floor) & (!(s[k - 1] > s[k]) & !(s[k + 1] > s[k]))
+}
+
+// Whether one of the eight places from i on is such a crest.
+fn eight_crests(s: &[f32], i: usize, floor: f32) -> bool
+    requires { ⌜ (1 ≤ i) × (i + 8 < length (now s)) ⌝ }
+    ensures { λ r. ⌜ r ≡ eight (crest floor (now (s .entry))) i ⌝ }
+{
+    (is_crest(s, i, floor) | is_crest(s, i + 1, floor) | is_crest(s, i + 2, floor) | is_crest(s, i + 3, floor))
+        | (is_crest(s, i + 4, floor) | is_crest(s, i + 5, floor) | is_crest(s, i + 6, floor) | is_crest(s, i + 7, floor))
+}
+
+// The first crest from `from` on and before `to`; `to` where there is none.
+fn next_crest(s: &[f32], from: usize, to: usize, floor: f32) -> usize
+    requires { ⌜ (1 ≤ from) × (from ≤ to) × (to < length (now s)) ⌝ }
+    ensures { λ r. ⌜ Next (crest floor (now (s .entry))) from to r ⌝ }
+{
+    let mut i = from;
+    while to - i >= 8 {
+        if eight_crests(s, i, floor) {
+            break;
+        }
+        i += 8;
+    }
+    while i < to {
+        if is_crest(s, i, floor) {
+            return i;
+        }
+        i += 1;
+    }
+    to
+}
+
+// The next place of a row that is worth a verdict: above the floor and, where the window of radius r has them, no less than its two neighbours.
+pub fn next_candidate(s: &[f32], from: usize, to: usize, floor: f32, r: usize) -> usize
+    requires { ⌜ (1 ≤ from) × (from ≤ to) × (to < length (now s)) ⌝ }
+    ensures { λ i. ⌜ Reached r floor (now (s .entry)) from to i ⌝ }
+{
+    if 0 < r {
+        return next_crest(s, from, to, floor);
+    }
+    next_above(&s[..to], from, floor)
 }
 
 // The greatest of the values, from zero up: each value that is above the greatest so far takes its place.

@@ -1,6 +1,6 @@
 // The scan: the candidates that are kept, in row order, stored as far as the list has room and counted in any case.
 use super::above::max_response;
-use super::above::next_above;
+use super::above::next_candidate;
 use super::peak_fit::fit_peak_frac;
 use super::saddle::SaddleTest;
 use super::saddle::new;
@@ -71,7 +71,7 @@ fn put_corner(
     list[i + 2] = resp[c];
 }
 
-// The corners of row y, after the n that are found above it. Runs of values that are not above the floor are passed over.
+// The corners of row y, after the n that are found above it. Places that cannot be kept are passed over in runs.
 fn find_in_row(
     resp: &[f32],
     image: &[u8],
@@ -91,10 +91,11 @@ fn find_in_row(
     let b = border(params);
     let ex = w - b;
     let a = y * w;
-    let e = a + ex;
+    let e = a + w;
     let row = &resp[a..e];
+    let r = params.nms_radius as usize;
     let mut count = n;
-    let mut x = next_above(row, b, floor);
+    let mut x = next_candidate(row, b, ex, floor, r);
     while x < ex {
         if is_kept(judge_at(resp, image, w, h, params, t, floor, x, y)) {
             if count < room {
@@ -102,7 +103,7 @@ fn find_in_row(
             }
             count += 1;
         }
-        x = next_above(row, x + 1, floor);
+        x = next_candidate(row, x + 1, ex, floor, r);
     }
     count
 }
