@@ -1,0 +1,2 @@
+-- What the proof of the function cites.
+pub mod Cases
