@@ -22,6 +22,7 @@ module _ (file : List ℕ) (b : Buffers) {r : Reading} (is : r ≡ readOf limit 
       → o ≡ finderOutcome pixels (h .width) (h .height) (h .params) b → after ≡ finderBuffers pixels (h .width) (h .height) (h .params) b
       → (o ≡ outcomeOf file b) × (after ≡ buffersOf file b)
   unfolding outcomeOf buffersOf
-  when-read pixels h e p answer buffers =
-      (answer ∙ ap (λ (l : List ℕ). finderOutcome l (h .width) (h .height) (h .params) b) p ∙ ap (outcomeFor file b) (sym e ∙ is),
-       buffers ∙ ap (λ (l : List ℕ). finderBuffers l (h .width) (h .height) (h .params) b) p ∙ ap (buffersFor file b) (sym e ∙ is))
+  when-read pixels h e p answer buffers = (
+    answer ∙ ap (λ (l : List ℕ). finderOutcome l (h .width) (h .height) (h .params) b) p ∙ ap (outcomeFor file b) (sym e ∙ is),
+    buffers ∙ ap (λ (l : List ℕ). finderBuffers l (h .width) (h .height) (h .params) b) p ∙ ap (buffersFor file b) (sym e ∙ is),
+  )
