@@ -1,0 +1,188 @@
+// What the programs share that replay a list of vectors: where its numbers and files stand, how values are compared and counted, and what is printed.
+// A list is a line of text, then records of big-endian numbers, as tools/judge/README.md says. No read goes past its end.
+ghost use Prim.Native.Nat.{_≤_};
+ghost use lib.ListN.{length};
+use libc::STDOUT_FILENO;
+
+// What stands for a byte or a word past the end: none has this value.
+const NO_BYTE: u64 = 256;
+
+const NO_WORD: u64 = 4294967296;
+
+// No count goes over this.
+const MOST: usize = 4294967296;
+
+fn wide(b: u8) -> u64
+    ensures { λ r. ⌜ r ≤ 255 ⌝ }
+{
+    b as u64
+}
+
+pub fn byte(s: &[u8], at: usize) -> u64
+    ensures { λ r. ⌜ r ≤ 256 ⌝ }
+{
+    if at < s.len() { wide(s[at]) } else { NO_BYTE }
+}
+
+// The four bytes at a place as a number, the highest first.
+pub fn word(s: &[u8], at: usize) -> u64
+    ensures { λ r. ⌜ r ≤ 4294967296 ⌝ }
+{
+    if at > s.len() {
+        return NO_WORD;
+    }
+    if s.len() - at < 4 {
+        return NO_WORD;
+    }
+    wide(s[at]) * 16777216 + wide(s[at + 1]) * 65536 + wide(s[at + 2]) * 256 + wide(s[at + 3])
+}
+
+// The place n bytes further, and the end at most.
+pub fn skip(s: &[u8], at: usize, n: usize) -> usize
+    ensures { λ r. ⌜ r ≤ length (now (s .entry)) ⌝ }
+{
+    if at > s.len() {
+        return s.len();
+    }
+    if s.len() - at < n {
+        return s.len();
+    }
+    at + n
+}
+
+// The bytes from a place to another, and none where that is no part.
+pub fn part(s: &[u8], from: usize, to: usize) -> &[u8] {
+    let n = s.len();
+    if to > n {
+        return &s[n..];
+    }
+    if from > to {
+        return &s[n..];
+    }
+    &s[from..to]
+}
+
+// The place after the first line.
+pub fn after_line(s: &[u8]) -> usize
+    ensures { λ r. ⌜ r ≤ length (now (s .entry)) ⌝ }
+{
+    let mut i = 0;
+    while i < s.len() {
+        if s[i] == b'\n' {
+            return i + 1;
+        }
+        i += 1;
+    }
+    i
+}
+
+// The bits of a float. A NaN's are 7FC00000.
+pub fn bits(x: f32) -> u64
+    ensures { λ r. ⌜ r ≤ 4294967295 ⌝ }
+{
+    if x != x {
+        return 2143289344;
+    }
+    wide32(f32::to_bits(x))
+}
+
+fn wide32(x: u32) -> u64
+    ensures { λ r. ⌜ r ≤ 4294967295 ⌝ }
+{
+    x as u64
+}
+
+// The float of a bit pattern, and a NaN for a NaN's or for no word.
+pub fn float(bits: u64) -> f32 {
+    if bits < NO_WORD {
+        return float32(bits as u32);
+    }
+    0.0 / 0.0
+}
+
+fn float32(bits: u32) -> f32 {
+    if bits % 0x8000_0000 <= 0x7f80_0000 {
+        return f32::from_bits(bits);
+    }
+    0.0 / 0.0
+}
+
+// An entry's bits, or no word where there is none.
+pub fn float_at(t: &[f32], i: usize) -> u64 {
+    if i < t.len() { bits(t[i]) } else { NO_WORD }
+}
+
+pub fn word_at(t: &[u32], i: usize) -> u64 {
+    if i < t.len() { wide32(t[i]) } else { NO_WORD }
+}
+
+// 1 where two numbers differ.
+pub fn differ(a: u64, b: u64) -> usize
+    ensures { λ r. ⌜ r ≤ 1 ⌝ }
+{
+    if a == b { 0 } else { 1 }
+}
+
+// A sum of two counts.
+pub fn plus(a: usize, b: usize) -> usize
+    ensures { λ r. ⌜ r ≤ 4294967296 ⌝ }
+{
+    if a > MOST {
+        return MOST;
+    }
+    if MOST - a < b {
+        return MOST;
+    }
+    a + b
+}
+
+// How many records there were, how many disagree, and the number of the first of those, counted from 0.
+pub struct Tally {
+    pub records: usize,
+    pub wrong: usize,
+    pub first: usize,
+}
+
+pub fn nothing_yet() -> Tally {
+    Tally {
+        records: 0,
+        wrong: 0,
+        first: 0,
+    }
+}
+
+// One record more, in which that many things disagree.
+pub fn with(t: Tally, wrong: usize) -> Tally {
+    let n = t.records;
+    if wrong == 0 {
+        return Tally {
+            records: plus(n, 1),
+            wrong: t.wrong,
+            first: t.first,
+        };
+    }
+    let first = if t.wrong == 0 { n } else { t.first };
+    Tally {
+        records: plus(n, 1),
+        wrong: plus(t.wrong, 1),
+        first,
+    }
+}
+
+// A line with a name and a number.
+pub fn say(name: &[u8], n: usize) {
+    io::write_all(STDOUT_FILENO, name);
+    io::write_all(STDOUT_FILENO, b": ");
+    io::print_decimal(STDOUT_FILENO, n as u64);
+    io::write_all(STDOUT_FILENO, b"\n");
+}
+
+// The list's own line, the number of records, and how many disagree.
+pub fn report(s: &[u8], t: Tally) {
+    io::write_all(STDOUT_FILENO, part(s, 0, after_line(s)));
+    say(b"records", t.records);
+    say(b"records that disagree", t.wrong);
+    if t.wrong > 0 {
+        say(b"number of the first that disagrees, from 0", t.first);
+    }
+}

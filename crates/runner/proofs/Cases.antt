@@ -1,0 +1,28 @@
+-- The two cases of what the program answers: the file is refused, or its frame is taken. Assumes nothing.
+use mathlib.Core.Path.{_≡_, refl, sym, ap, _∙_}
+use mathlib.Core.List.{List}
+use Prim.Native.Nat.{ℕ}
+use lib.ListN.{drop}
+use Rattle.params.specs.declared.Answer.{Answer}
+use Rattle.params.specs.declared.Outcome.{Outcome}
+use Rattle.params.specs.Answers.{refused}
+use Rattle.frame.specs.declared.Header.{Header}
+use Rattle.frame.specs.declared.Reading.{Reading}
+use Rattle.frame.specs.declared.Reading.the-variants.{Frame, Refused}
+use Rattle.frame.specs.FrameFile.{readOf}
+use Rattle.radon.specs.Finder.{Buffers, outcomeOf as finderOutcome, buffersOf as finderBuffers}
+use Rattle.runner.specs.Run.{limit, outcomeFor, outcomeOf, buffersFor, buffersOf}
+
+module _ (file : List ℕ) (b : Buffers) {r : Reading} (is : r ≡ readOf limit file) where
+  pub when-refused : {o : Outcome} (a : Answer) → r ≡ Refused a → o ≡ refused a → (o ≡ outcomeOf file b) × (b ≡ buffersOf file b)
+  unfolding outcomeOf buffersOf
+  when-refused a e h = (h ∙ ap (outcomeFor file b) (sym e ∙ is), ap (buffersFor file b) (sym e ∙ is))
+
+  pub when-read : {o : Outcome} {after : Buffers} (pixels : List ℕ) (h : Header) → r ≡ Frame h → pixels ≡ drop 20 file
+      → o ≡ finderOutcome pixels (h .width) (h .height) (h .params) b → after ≡ finderBuffers pixels (h .width) (h .height) (h .params) b
+      → (o ≡ outcomeOf file b) × (after ≡ buffersOf file b)
+  unfolding outcomeOf buffersOf
+  when-read pixels h e p answer buffers = (
+    answer ∙ ap (λ (l : List ℕ). finderOutcome l (h .width) (h .height) (h .params) b) p ∙ ap (outcomeFor file b) (sym e ∙ is),
+    buffers ∙ ap (λ (l : List ℕ). finderBuffers l (h .width) (h .height) (h .params) b) p ∙ ap (buffersFor file b) (sym e ∙ is),
+  )

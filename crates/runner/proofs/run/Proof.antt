@@ -1,0 +1,59 @@
+-- `runner::run` meets its contract: the file is refused, or the finder answers. Assumes nothing.
+use denote.Ref.{now}
+use borrow.Author.Needs.{needs}
+use Rattle.radon.specs.Finder.{Buffers}
+use Rattle.runner.proofs.Cases.{when-refused, when-read}
+use Rattle.runner.proofs.run.Statement.{statement}
+use Rattle.runner.proofs.run.Tie as tie
+
+abbrev lent : tie.Start → Buffers
+lent s = record {
+  map = record {
+    working = now (s .args .working);
+    row = now (s .args .row);
+    col = now (s .args .col);
+    pos = now (s .args .pos);
+    neg = now (s .args .neg);
+    response = now (s .args .response);
+    scratch = now (s .args .scratch);
+  };
+  list = now (s .args .list);
+}
+
+-- from what was read back to the start
+abbrev start : tie.After-read → tie.Start
+start c = c .before .before .before .before .before .before .before .before .before .before
+
+returns : tie.Need-returns
+returns c =
+    let r = c .before .before .before .before in
+    let s = start r in
+    when-refused (now (s .args .file)) (lent s) (r .read .ensures) _ (c .before .before .reading .given .1) (c .refusal .ensures)
+
+returns-2 : tie.Need-returns-2
+returns-2 c =
+    let f = c .before .before .before .before .before .before .before .before .before .before .before .before .before .before .before .before in
+    let r = c .before .before .before .before .before .before .before .before .before .before .before .before .before .before .before .before .before .before .before .before .before .before .before .before .before .before .before .before .before in
+    let s = start r in
+    when-read (now (s .args .file)) (lent s) (r .read .ensures) (now (c .before .before .before .before .before .before .before .before .before .before .before .before .before .before .before .before .before .before .before .before .before .before .before .before .before .pixels .result)) _ (c .before .before .before .before .before .before .before .before .before .before .before .before .before .before .before .before .before .before .before .before .before .before .before .before .before .before .before .reading2 .given .1) (c .before .before .before .before .before .before .before .before .before .before .before .before .before .before .before .before .before .before .before .before .before .before .before .before .before .pixels .ensures) (f .radon-corners-u8 .ensures .0) (f .radon-corners-u8 .ensures .1)
+
+pub run-spec : {M : Type 1} → statement M
+run-spec =
+    tie.close
+    (tie.spec
+    (λ c κs. search needs)
+    (λ c. search needs)
+    (λ c κs. search needs)
+    (λ c. search needs)
+    (λ c κs. search needs)
+    (λ c κs. search needs)
+    returns
+    (λ c. search needs)
+    (λ c. search needs)
+    (λ c. search needs)
+    (λ c. search needs)
+    (λ c. search needs)
+    (λ c. search needs)
+    (λ c. search needs)
+    (λ c. search needs)
+    returns-2)

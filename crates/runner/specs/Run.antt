@@ -1,0 +1,30 @@
+-- Document 01, "Frame file and printed list": what the program answers to a file. The answers of the file come before those of the finder.
+use mathlib.Core.List.{List}
+use Prim.Native.Nat.{ℕ}
+use lib.ListN.{drop}
+use Rattle.params.specs.declared.Outcome.{Outcome}
+use Rattle.params.specs.Answers.{refused}
+use Rattle.frame.specs.declared.Reading.{Reading}
+use Rattle.frame.specs.declared.Reading.the-variants.{Frame, Refused}
+use Rattle.frame.specs.FrameFile.{readOf}
+use Rattle.radon.specs.Finder.{Buffers, outcomeOf as finderOutcome, buffersOf as finderBuffers}
+
+-- "10 over 2,324 bytes"
+abbrev pub limit : ℕ
+limit = 2324
+
+-- "Before the table above come, lowest first: 10 .. 14"; the pixels are what follows the 20 bytes of the fields
+abbrev pub outcomeFor : List ℕ → Buffers → Reading → Outcome
+outcomeFor file b (Refused answer) = refused answer
+outcomeFor file b (Frame h) = finderOutcome (drop 20 file) (h .width) (h .height) (h .params) b
+
+unfoldable pub outcomeOf : List ℕ → Buffers → Outcome
+outcomeOf file b = outcomeFor file b (readOf limit file)
+
+-- "With every refusal, later ones too, .. no buffer changes"
+abbrev pub buffersFor : List ℕ → Buffers → Reading → Buffers
+buffersFor file b (Refused answer) = b
+buffersFor file b (Frame h) = finderBuffers (drop 20 file) (h .width) (h .height) (h .params) b
+
+unfoldable pub buffersOf : List ℕ → Buffers → Buffers
+buffersOf file b = buffersFor file b (readOf limit file)
