@@ -1,2 +1,3 @@
--- What the proofs share.
+-- Steps of the proofs, and that the map goes by three settings.
 pub mod Cases
+pub mod OnlyThree

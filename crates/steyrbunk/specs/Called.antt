@@ -3,7 +3,6 @@ use mathlib.Core.Bool.{Bool, true, false}
 use mathlib.Core.List.{List}
 use Prim.Native.Nat.{ℕ}
 use lib.Dec.{ltb, eqb}
-use lib.ListN.{length}
 use lib.Ieee.{Float}
 use Rattle.params.specs.declared.PeakFitMode.{PeakFitMode}
 use Rattle.params.specs.declared.PeakFitMode.the-variants.{Parabolic, Gaussian}

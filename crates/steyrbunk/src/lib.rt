@@ -1,4 +1,5 @@
 // The finder, the map and the list for a C or Rust program to call: numbers and slices, and every answer as its number.
+// A slice is a pointer and a length there. The header in tools/steyrbunk/include explains each argument.
 ghost use mathlib.Core.Path.{_≡_};
 ghost use lib.ListN.{length};
 ghost use lib.Dec.{eqb};
