@@ -12,6 +12,11 @@ const NO_WORD: u64 = 4294967296;
 // No count goes over this.
 const MOST: usize = 4294967296;
 
+// Room for a whole list. A call's result is a value of which a proof sees the length alone, and not what fills it.
+pub fn room() -> [u8; 1048576] {
+    [0; 1048576]
+}
+
 fn wide(b: u8) -> u64
     ensures { λ r. ⌜ r ≤ 255 ⌝ }
 {

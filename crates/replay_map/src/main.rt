@@ -3,6 +3,7 @@ ghost use Prim.Native.Nat.{_≤_};
 use frame::Reading;
 use libc::STDIN_FILENO;
 use replay::Tally;
+use response::Mapped;
 
 // No frame file of the list is longer.
 const LIMIT: usize = 2324;
@@ -18,7 +19,7 @@ struct Compared {
 }
 
 fn main() {
-    let mut input = [0u8; 1048576];
+    let mut input = replay::room();
     let got = io::read_full(STDIN_FILENO, &mut input);
     replayed(&input[..got]);
 }
@@ -81,18 +82,45 @@ fn mapped(file: &[u8], s: &[u8], at: usize) -> Compared {
         &mut response,
         &mut scratch,
     );
+    against(
+        map,
+        &working,
+        &row,
+        &col,
+        &pos,
+        &neg,
+        &response,
+        &scratch,
+        s,
+        at,
+    )
+}
+
+// The map against the list, from a place on, in the list's order. A word says whether there is a scratch.
+fn against(
+    map: Mapped,
+    working: &[u8],
+    row: &[u32],
+    col: &[u32],
+    pos: &[u32],
+    neg: &[u32],
+    response: &[f32],
+    scratch: &[f32],
+    s: &[u8],
+    at: usize,
+) -> Compared {
     let answer = map.answer;
-    let c = sides(s, at, answer.number() as u64, map.w as u64, map.h as u64);
     let n = area(map.w, map.h);
-    let c = then(c, bytes(s, c.next, &working, n));
-    let c = then(c, words(s, c.next, &row, n));
-    let c = then(c, words(s, c.next, &col, n));
-    let c = then(c, words(s, c.next, &pos, n));
-    let c = then(c, words(s, c.next, &neg, n));
-    let c = then(c, floats(s, c.next, &response, n));
+    let c = sides(s, at, answer.number() as u64, map.w as u64, map.h as u64);
+    let c = then(c, bytes(s, c.next, working, n));
+    let c = then(c, words(s, c.next, row, n));
+    let c = then(c, words(s, c.next, col, n));
+    let c = then(c, words(s, c.next, pos, n));
+    let c = then(c, words(s, c.next, neg, n));
+    let c = then(c, floats(s, c.next, response, n));
     let blurred = replay::word(s, c.next);
     let next = replay::skip(s, c.next, 4);
-    then(c, floats(s, next, &scratch, where_one(blurred, n)))
+    then(c, floats(s, next, scratch, where_one(blurred, n)))
 }
 
 // A file of the list is not refused.

@@ -21,7 +21,7 @@ struct Compared {
 }
 
 fn main() {
-    let mut input = [0u8; 1048576];
+    let mut input = replay::room();
     let got = io::read_full(STDIN_FILENO, &mut input);
     replayed(&input[..got]);
 }
