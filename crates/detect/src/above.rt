@@ -51,8 +51,14 @@ fn eight_crests(s: &[f32], i: usize, floor: f32) -> bool
     requires { ⌜ (1 ≤ i) × (i + 8 < length (now s)) ⌝ }
     ensures { λ r. ⌜ r ≡ eight (crest floor (now (s .entry))) i ⌝ }
 {
-    (is_crest(s, i, floor) | is_crest(s, i + 1, floor) | is_crest(s, i + 2, floor) | is_crest(s, i + 3, floor))
-        | (is_crest(s, i + 4, floor) | is_crest(s, i + 5, floor) | is_crest(s, i + 6, floor) | is_crest(s, i + 7, floor))
+    (is_crest(s, i, floor)
+        | is_crest(s, i + 1, floor)
+        | is_crest(s, i + 2, floor)
+        | is_crest(s, i + 3, floor))
+        | (is_crest(s, i + 4, floor)
+            | is_crest(s, i + 5, floor)
+            | is_crest(s, i + 6, floor)
+            | is_crest(s, i + 7, floor))
 }
 
 // The first crest from `from` on and before `to`; `to` where there is none.
