@@ -100,10 +100,13 @@ fn found(file: &[u8], s: &[u8], at: usize) -> Compared {
         &mut list,
     );
     let first = sides(outcome, s, at);
-    then(
-        first,
-        corners(&list, outcome.count, s, first.next, gaussian(file)),
-    )
+    let many = capped(replay::word(s, replay::skip(s, at, 8)));
+    then(first, corners(&list, many, s, first.next, gaussian(file)))
+}
+
+// No record has more corners than the program's list takes.
+fn capped(n: u64) -> usize {
+    if n <= 256 { n as usize } else { 0 }
 }
 
 fn gaussian(file: &[u8]) -> bool {
@@ -131,7 +134,7 @@ fn sides(outcome: Outcome, s: &[u8], at: usize) -> Compared {
     }
 }
 
-// As many corners as were found.
+// As many corners as the record has, so that the next record is found even where this one disagrees.
 fn corners(list: &[f32], count: usize, s: &[u8], at: usize, gaussian: bool) -> Compared {
     let mut all = nothing(at);
     let mut i: usize = 0;

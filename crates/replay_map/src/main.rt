@@ -96,7 +96,7 @@ fn mapped(file: &[u8], s: &[u8], at: usize) -> Compared {
     )
 }
 
-// The map against the list, from a place on, in the list's order. A word says whether there is a scratch.
+// The map against the list, from a place on, in the list's order and with the list's sides. A word says whether there is a scratch.
 fn against(
     map: Mapped,
     working: &[u8],
@@ -110,7 +110,10 @@ fn against(
     at: usize,
 ) -> Compared {
     let answer = map.answer;
-    let n = area(map.w, map.h);
+    let n = area(
+        replay::word(s, at) as usize,
+        replay::word(s, replay::skip(s, at, 4)) as usize,
+    );
     let c = sides(s, at, answer.number() as u64, map.w as u64, map.h as u64);
     let c = then(c, bytes(s, c.next, working, n));
     let c = then(c, words(s, c.next, row, n));
