@@ -11,7 +11,7 @@ use lib.Dec.{T, lit<}
 use lib.IntN.{pos, negsuc}
 use lib.ListN.{length, take, drop}
 use lib.Seq.{take-length}
-use lib.Ieee.{Float, fin, le}
+use lib.Ieee.{Float, fin, le, fits, binary32, toBits}
 use lib.Ieee.Exact.{HasValue}
 use lib.Ieee.Scale.{finite}
 use Rattle.float.specs.Values.{f0, f1}
@@ -19,6 +19,10 @@ use Rattle.grid.specs.Ways.{pixel, Inside}
 use Rattle.grid.specs.Each.{each, keep, count-most, count}
 use Rattle.grid.specs.Rect.{Place}
 use Rattle.grid.specs.Over.{written, opening, shorter, past}
+use Rattle.scalar.specs.Log.{logOf, terms, high, Near, lowest, highest, difference, unitsOf, cutThird}
+use Rattle.scalar.specs.declared.Log.the-variants.{Value}
+use Rattle.scalar.proofs.Facts.{log-near, log-inside}
+use Rattle.params.specs.declared.PeakFitMode.{PeakFitMode}
 use Rattle.params.specs.declared.RadonDetectorParams.{RadonDetectorParams}
 use Rattle.params.specs.declared.Outcome.{Outcome}
 use Rattle.params.specs.Settings.{factorOf, rayOf}
@@ -32,6 +36,10 @@ use Rattle.response.specs.Inner.{within-of, response-out}
 use Rattle.response.specs.Exact.{exact}
 use Rattle.response.specs.MapFacts.{SameWritten, same-written, raised-frame, map-range}
 use Rattle.detect.specs.Corners.{corners, numbers, stride}
+use Rattle.detect.specs.Saddle.{saddleOf, saddleAt, sumsOf, verdict}
+use Rattle.detect.specs.PeakFit.{fitOf}
+use Rattle.detect.proofs.Rooted.{by-root, trace, spreadSquared, nearestRoot}
+use Rattle.detect.proofs.Offsets.{Central, fit-central}
 use Rattle.detect.proofs.Scanning.{numbers-long}
 use Rattle.detect.proofs.HigherSettings.{raised, passesHigher, higher-corners}
 use Rattle.radon.specs.Finder.{Buffers, answered, found, outcomeOf, buffersOf}
@@ -97,6 +105,21 @@ module _ (factor ray : ℕ) (f : ℕ → ℕ → ℕ) (w h x y : ℕ) where
 pub positive-in-range : (factor ray blur : ℕ) (f : ℕ → ℕ → ℕ) (w h : ℕ) → ((x y : ℕ) → f x y ≤ 255) → ray ≤ 7 → blur ≤ 3 → (x y : ℕ) → x < factor * w → y < factor * h
     → (mapAt factor ray blur f w h x y ≡ f0) ⊎ (T (le (fin false 1 (negsuc 5)) (mapAt factor ray blur f w h x y)) × T (le (mapAt factor ray blur f w h x y) (fin false 1 (pos 24))))
 positive-in-range = map-range
+
+-- "their logarithm has a stated bound": what the logarithm gives is within 2^-19 of L, and for a positive map value it gives something
+pub logarithm-is-near : (x r : Float) → T (fits binary32 x) → logOf terms high x ≡ Value r → Near terms x r
+logarithm-is-near = log-near
+
+pub logarithm-is-defined : (x : Float) → le lowest x ≡ true → le x (highest high) ≡ true → logOf terms high x ≡ Value (difference (unitsOf terms (toBits binary32 x)) (6 * cutThird terms))
+logarithm-is-defined = log-inside terms high
+
+-- the saddle test's root is never outside, and a fitted offset is a number from -0.5 to 0.5
+pub saddle-has-root : (k : ℕ) (f : ℕ → ℕ → ℕ) (x y : ℕ) → 1 ≤ k → k ≤ 7 → ((i j : ℕ) → f i j ≤ 4095)
+    → saddleAt (saddleOf k) k f x y ≡ verdict k (trace (saddleOf k) (sumsOf (saddleOf k) k f x y)) (nearestRoot (spreadSquared (saddleOf k) (sumsOf (saddleOf k) k f x y)))
+saddle-has-root = by-root
+
+pub offset-is-central : (mode : PeakFitMode) (m c p : Float) → Central (fitOf mode m c p)
+offset-is-central = fit-central
 
 -- ---- D3. "The higher setting's list is exactly those of the lower's corners that pass the higher floor and count, in order, bits unchanged."
 
