@@ -8,6 +8,8 @@ const VARIABLE: &str = "CHESS_CORNERS_RS";
 /// Where the files lie if the variable is not set: beside the repository.
 const DEFAULT: &str = "../../../shared/docs/src";
 const CORE: &str = "crates/chess-corners-core/src";
+/// What stands behind the original's response for the benchmark; a path from either package.
+const PASSES: &str = "../judge/src/passes.rs";
 
 const FILES: [(&str, &str); 5] = [
     ("IMAGEVIEW", "imageview.rs"),
@@ -37,6 +39,8 @@ mod detect {
         pub(crate) mod response;
         #[path = DETECT]
         pub(crate) mod detect;
+        #[path = OPENED]
+        pub(crate) mod opened;
         pub(crate) use response::RadonBuffers;
         use response::RadonResponseView;
 
@@ -73,13 +77,32 @@ fn published(core: &Path, name: &str) -> PathBuf {
     })
 }
 
+/// The response's text a second time, with a module of ours behind it. Its passes are private, and only a module within sees them.
+/// The benchmark times them through it; nothing is judged by it.
+fn opened(response: &Path) -> String {
+    let package = PathBuf::from(env::var("CARGO_MANIFEST_DIR").expect("set by cargo"));
+    let passes = package.join(PASSES);
+    println!("cargo:rerun-if-changed={}", passes.display());
+    let text = fs::read_to_string(response).expect("a published file can be read");
+    format!("{text}\n#[path = {passes:?}]\npub(crate) mod passes;\n")
+}
+
 fn main() {
     println!("cargo:rerun-if-env-changed={VARIABLE}");
     let core = checkout().join(CORE);
-    let tree = FILES.iter().fold(TREE.to_string(), |tree, (mark, name)| {
-        let path = published(&core, name);
-        tree.replace(&format!("= {mark}]"), &format!("= {path:?}]"))
-    });
     let out = PathBuf::from(env::var("OUT_DIR").expect("set by cargo"));
-    fs::write(out.join("original.rs"), tree).expect("the build directory can be written");
+    let point = |tree: String, mark: &str, path: &Path| {
+        tree.replace(&format!("= {mark}]"), &format!("= {path:?}]"))
+    };
+    let write = |name: &str, text: String| {
+        let path = out.join(name);
+        fs::write(&path, text).expect("the build directory can be written");
+        path
+    };
+    let tree = FILES.iter().fold(TREE.to_string(), |tree, (mark, name)| {
+        point(tree, mark, &published(&core, name))
+    });
+    let response = published(&core, "detect/radon/response.rs");
+    let tree = point(tree, "OPENED", &write("opened.rs", opened(&response)));
+    write("original.rs", tree);
 }

@@ -56,7 +56,7 @@ fn strip(img: &[u8], w: usize, h: usize, a: usize, e: usize, out: &mut [u32])
     }
 }
 
-// Down each column, from the top: 64 columns at a time, since one alone would jump a whole row at every step.
+// Down each column, from the top: 1,024 columns at a time, so that the row above is still near when it is read.
 pub fn sat_col(img: &[u8], w: usize, h: usize, out: &mut [u32])
     requires { ⌜ (w ≤ 8192) × (h ≤ 8192) × (w * h ≤ length (now img)) × (w * h ≤ length (now out)) ⌝ }
     ensures { λ _. ⌜ now (out .exit) ≡ filled (w * h) (plane w (runSum down (pixel (now (img .entry)) w) w)) (now (out .entry)) ⌝ }
@@ -66,7 +66,7 @@ pub fn sat_col(img: &[u8], w: usize, h: usize, out: &mut [u32])
     }
     let mut x = 0;
     while x < w {
-        let e = lesser(x + 64, w);
+        let e = lesser(x + 1024, w);
         strip(img, w, h, x, e, out);
         x = e;
     }

@@ -1,8 +1,12 @@
-//! `bench`: map, list and whole, ours and the Rust's two builds, on the same frames in one run.
+//! `bench`: each pass, map, list and whole, ours and the Rust's two builds, on the same frames in one run.
 
 mod clock;
 mod frames;
+#[cfg(passes)]
+mod passes;
 mod sides;
+#[cfg(passes)]
+mod steps;
 mod table;
 
 use std::process::ExitCode;
@@ -26,7 +30,8 @@ bench times the proved finder against the published Rust, one thread each, and p
 
 The sides take turns, call by call, so that what disturbs the machine disturbs them alike. Before
 the timed calls each side is called once; buffers are kept from call to call and never cleared.
-On Linux the time is the processor time of the thread. Nothing is asserted about it. That both sides find the same number of corners is.
+On Linux the time is the processor time of the thread. Nothing is asserted about it. That all sides
+find the same number of corners, and that their single passes make the same map to the bit, is.
 ";
 
 const SIZES: [(usize, usize); 4] = [(640, 480), (1_280, 960), (2_048, 1_024), (4_096, 2_048)];
@@ -139,36 +144,80 @@ impl Copy {
     }
 }
 
-/// All sides on one frame, turn by turn.
-fn row(image: Image, factor: u32, pass: Pass, repeats: usize, copy: &mut Copy) -> Row {
-    let settings = pass.settings(factor);
-    let sides: &mut [Box<dyn Side>] = &mut [
-        Box::new(Ours::new(image, settings)),
-        Box::new(Default64::new(image, settings)),
-        Box::new(Tables32::new(image, settings)),
-    ];
-    let counts: Vec<usize> = sides.iter_mut().map(|side| side.count()).collect();
-    assert!(
-        counts.iter().all(|count| *count == counts[0]),
-        "corners: {counts:?}"
-    );
-    let input = image.pixels.len();
-    let working = input * settings.factor() * settings.factor();
-    let moved = pass.moved(input, working);
-    sides.iter_mut().for_each(|side| side.call(pass));
-    copy.moves(moved);
-    let mut times = Times::default();
-    for _ in 0..repeats.max(1) {
-        let calls = [0, 1, 2].map(|side| timed(|| sides[side].call(pass)));
-        times.add(calls, timed(|| copy.moves(moved)));
+/// One image at one factor, and what the calls share.
+struct Frame<'a> {
+    image: Image<'a>,
+    factor: u32,
+    repeats: usize,
+    copy: &'a mut Copy,
+}
+
+impl Frame<'_> {
+    fn working(&self) -> usize {
+        self.image.pixels.len() * (self.factor * self.factor) as usize
     }
-    Row {
-        size: format!("{}x{} x{factor}", image.width, image.height),
-        pass: pass.name(),
-        working,
-        corners: counts[0],
-        moved,
-        times,
+
+    /// The three sides turn by turn, after one call of each that does not count.
+    fn row(
+        &mut self,
+        pass: String,
+        corners: Option<usize>,
+        moved: usize,
+        mut call: impl FnMut(usize),
+    ) -> Row {
+        let sides = [0, 1, 2];
+        sides.into_iter().for_each(&mut call);
+        self.copy.moves(moved);
+        let mut times = Times::default();
+        for _ in 0..self.repeats.max(1) {
+            let calls = sides.map(|side| timed(|| call(side)));
+            times.add(calls, timed(|| self.copy.moves(moved)));
+        }
+        Row {
+            size: format!(
+                "{}x{} x{}",
+                self.image.width, self.image.height, self.factor
+            ),
+            pass,
+            working: self.working(),
+            corners,
+            moved,
+            times,
+        }
+    }
+
+    /// The passes of the map one by one. A timed blur goes on from what the one before it left.
+    #[cfg(passes)]
+    fn steps(&mut self) {
+        let mut sides = steps::sides(self.image, self.factor);
+        for step in steps::STEPS {
+            let moved = step.moved(self.image.pixels.len(), self.working());
+            self.row(step.name(), None, moved, |side| sides[side].call(step))
+                .print();
+        }
+    }
+
+    #[cfg(not(passes))]
+    fn steps(&mut self) {}
+
+    /// A map, the list or the whole.
+    fn whole(&mut self, pass: Pass) {
+        let settings = pass.settings(self.factor);
+        let sides: &mut [Box<dyn Side>] = &mut [
+            Box::new(Ours::new(self.image, settings)),
+            Box::new(Default64::new(self.image, settings)),
+            Box::new(Tables32::new(self.image, settings)),
+        ];
+        let counts: Vec<usize> = sides.iter_mut().map(|side| side.count()).collect();
+        assert!(
+            counts.iter().all(|count| *count == counts[0]),
+            "corners: {counts:?}"
+        );
+        let moved = pass.moved(self.image.pixels.len(), self.working());
+        self.row(pass.name(), Some(counts[0]), moved, |side| {
+            sides[side].call(pass)
+        })
+        .print();
     }
 }
 
@@ -186,15 +235,20 @@ fn run(options: &Options) {
             height,
         };
         for factor in [1, 2] {
-            if width * height * (factor * factor) as usize > GREATEST_WORKING {
+            let mut frame = Frame {
+                image,
+                factor,
+                repeats: options.repeats,
+                copy: &mut copy,
+            };
+            if frame.working() > GREATEST_WORKING {
                 continue;
             }
-            for pass in PASSES {
-                row(image, factor, pass, options.repeats, &mut copy).print();
-            }
+            frame.steps();
+            PASSES.into_iter().for_each(|pass| frame.whole(pass));
         }
     }
-    table::close();
+    table::close(cfg!(passes));
 }
 
 fn main() -> ExitCode {

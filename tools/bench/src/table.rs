@@ -35,7 +35,8 @@ pub struct Row {
     pub size: String,
     pub pass: String,
     pub working: usize,
-    pub corners: usize,
+    /// Where the pass finds any.
+    pub corners: Option<usize>,
     pub moved: usize,
     pub times: Times,
 }
@@ -63,7 +64,8 @@ impl Row {
             "| {} | {} | {} | {:.2} | {:.2} | {:.2} | {:.2} | {:.2} | {:.1} | {:.1} |",
             self.size,
             self.pass,
-            self.corners,
+            self.corners
+                .map_or(String::new(), |count| count.to_string()),
             ours / pixels,
             default / pixels,
             tables / pixels,
@@ -75,8 +77,11 @@ impl Row {
     }
 }
 
-pub fn close() {
+pub fn close(passes: bool) {
     println!();
+    if !passes {
+        println!("The single passes are left out: build them by tools/passes target/passes, then bench again.");
+    }
     println!("A working pixel is one after upsampling. Ratios above 1 mean that ours is faster. The copy reads and");
     println!("writes half of the bytes moved each, so that it moves as many.");
 }

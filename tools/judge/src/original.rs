@@ -3,6 +3,9 @@
 use crate::detect::radon::{self, detect, primitives, response};
 use crate::frame::Frame;
 
+/// The passes one by one, for the benchmark.
+pub use radon::opened::passes::Passes;
+
 pub use primitives::PeakFitMode;
 pub use response::{RadonBuffers, RadonDetectorParams, RadonResponseView};
 
