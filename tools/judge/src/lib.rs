@@ -1,4 +1,5 @@
 //! The judge: the published Rust, compiled unchanged, with frame files in and bits out.
+#![cfg_attr(feature = "simd", feature(portable_simd))]
 
 // The published files, and the crate root they expect around them.
 include!(concat!(env!("OUT_DIR"), "/original.rs"));
