@@ -1,14 +1,14 @@
 -- Facts of the list that a plain reading of the rules gives: the count is the number of candidates that are kept, equal plateau maxima are all kept,
 -- and the floor finds what the source's floor finds. Assumes nothing.
 use mathlib.Core.Path.{_≡_, refl}
-use mathlib.Core.Bool.{Bool, true, false, cond}
+use mathlib.Core.Bool.{true, false}
 use Prim.Native.Nat.{ℕ, _+_, _-_, _*_, _/_, _%_, _≤_, _<_}
 use borrow.Author.Tests.{eq-eqb}
 use mathlib.Core.List.{List}
 use lib.Dec.{T, leb}
-use lib.Ieee.{Float, inf, lt, le, ofBits}
+use lib.Ieee.{Float, inf, lt, le}
 use Rattle.float.specs.Values.{f0, f1}
-use Rattle.float.specs.Order.{lt-le, le-lt-trans, lt-itself}
+use Rattle.float.specs.Order.{lt-itself}
 use Rattle.float.specs.Product.{infinite-product, zero-product}
 use Rattle.grid.specs.Fold.{fold, fold-keeps}
 use Rattle.grid.specs.Plane.{plane}
@@ -22,6 +22,7 @@ use Rattle.detect.specs.Window.{at, value, beaten, positives}
 use Rattle.detect.specs.Corners.{borderOf, candidates, greater, peak, floorOf, isSaddle, isKept, verdict, corners}
 use Rattle.detect.specs.Detected.{refusalFor, outcomeOf}
 use Rattle.grid.specs.Ways.{pixel}
+use Rattle.detect.proofs.Greatest.{greatest-nonneg}
 
 -- ---- the count
 
@@ -49,19 +50,9 @@ plateau s floor f g x y a h n t = rw (a, level f (s .«nms_radius») x y (λ u v
 
 -- ---- the maximum and the floor
 
-one-of : (P : Float → Type 0) (b : Bool) (x y : Float) → (T b → P x) → P y → P (cond b x y)
-one-of P true x y p q = p tt
-one-of P false x y p q = q
-
-zero-zero : T (le f0 f0)
-unfolding ofBits le
-zero-zero = tt
-
 pub peak-nonneg : (w h : ℕ) (f : ℕ → ℕ → Float) → T (le f0 (peak w h f))
 unfolding peak
-peak-nonneg w h f =
-    fold-keeps greater f0 (λ n m. T (le f0 m)) (plane w f) zero-zero
-    (λ n m h. one-of (λ v. T (le f0 v)) (lt m (plane w f n)) (plane w f n) m (λ t. lt-le f0 (plane w f n) (le-lt-trans f0 m (plane w f n) h t)) h) (w * h)
+peak-nonneg w h f = greatest-nonneg (plane w f) (w * h)
 
 -- An infinite maximum, at which the source returns nothing: no candidate is above the floor.
 pub infinite-none : (s : RadonDetectorParams) (w h : ℕ) (f : ℕ → ℕ → Float) (g : ℕ → ℕ → ℕ) (p : Place) → T (le f0 (s .«threshold_rel»)) → peak w h f ≡ inf false

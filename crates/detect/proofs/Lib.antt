@@ -8,6 +8,7 @@ pub mod Rooted
 pub mod Offsets
 pub mod AsRust
 pub mod Passing
+pub mod Greatest
 pub mod Windows
 pub mod Scanning
 pub mod Allowing

@@ -1,18 +1,14 @@
--- How values at or under a floor are passed over: the steps behind `next_above` and `max_response`. Assumes nothing.
+-- How values at or under a floor are passed over: the steps behind `next_above` and `next_crest`. Assumes nothing.
 use mathlib.Core.Path.{_≡_, refl, sym, ap, _∙_}
 use mathlib.Core.Logic.{inl, inr}
 use mathlib.Core.Bool.{Bool, true, false, _||_, true≢false}
-use Prim.Native.Nat.{ℕ, zero, suc, _+_, _-_, _≤_, _<_}
+use Prim.Native.Nat.{ℕ, _+_, _≤_, _<_}
 use native.Mathlib.Decide.{decLe}
-use native.Mathlib.Nat.{add-zero}
 use native.Mathlib.Omega.{arith}
 use mathlib.Core.List.{List}
 use lib.ListN.{length, take}
 use lib.Seq.{length-take-le, getD-take}
 use lib.Ieee.{Float, nan, lt}
-use Rattle.float.specs.Values.{f0}
-use Rattle.grid.specs.Fold.{fold, fold-none, fold-on}
-use Rattle.detect.specs.Corners.{greater}
 use Rattle.detect.specs.Above.{over, crest, Reached, eight, None, Next}
 
 -- the search has passed i
@@ -41,7 +37,7 @@ module _ (p : ℕ → Bool) where
       let e : k ≡ i = omega arith in
       rw e h
 
-  none-eight : (i : ℕ) → eight p i ≡ false → None p i (i + 8)
+  pub none-eight : (i : ℕ) → eight p i ≡ false → None p i (i + 8)
   none-eight i h =
       let u = nor _ _ h in
       let a = nor _ _ (u .0) in
@@ -91,38 +87,3 @@ reached-above r floor s {e = e} l t = record {
   most = omega (arith, length-take-le e s l);
   none = λ k h b. inl (ap (lt floor) (sym (getD-take e s k nan (omega (arith, length-take-le e s l)))) ∙ t .none k h b);
 }
-
--- ---- the greatest so far
-
--- m is the greatest of the entries below i, and the entry at i, if there is one, is greater
-pub record Leads (f : ℕ → Float) (n i : ℕ) (m : Float) : Type 0 where
-  pub most : i ≤ n
-  pub is : m ≡ fold greater f0 f i
-  pub next : i < n → lt m (f i) ≡ true
-
-module _ (f : ℕ → Float) where
-  -- values that are not greater change nothing
-  same : (d n : ℕ) {m : Float} → m ≡ fold greater f0 f n → None (λ k. lt m (f k)) n (n + d) → m ≡ fold greater f0 f (n + d)
-  same zero n {m} h u = rw add-zero h
-  same (suc d) n {m} h u =
-      let t : lt m (f (n + d)) ≡ false = u (n + d) (omega arith) (omega arith) in
-      sym (rw t) ∙ fold-on greater f0 f (n + d) (n + suc d) (omega arith) refl (same d n h (λ k a b. u k a (omega arith)))
-
-  passing : {a i n : ℕ} {m : Float} → m ≡ fold greater f0 f a → Next (λ k. lt m (f k)) a n i → Leads f n i m
-  passing {a} {i} {n} {m} h r =
-      let e : a + (i - a) ≡ i = omega arith in
-      record { most = r .most; is = rw e at (same (i - a) a h (λ k b c. r .none k b (omega arith))); next = r .found }
-
-  pub leads-none : {n i : ℕ} → Next (λ k. lt f0 (f k)) 0 n i → Leads f n i f0
-  leads-none r = passing (fold-none greater f0 f 0 refl) r
-
-  -- it takes the place of the greatest
-  pub leads-more : {n i j : ℕ} {m : Float} → Leads f n i m → i < n → Next (λ k. lt (f i) (f k)) (i + 1) n j → Leads f n j (f i)
-  leads-more {i = i} {m = m} l b r =
-      let t : lt m (f i) ≡ true = l .next b in
-      passing (sym (rw t) ∙ fold-on greater f0 f i (i + 1) refl refl (l .is)) r
-
-  pub leads-all : {n i : ℕ} {m : Float} → Leads f n i m → n ≤ i → m ≡ fold greater f0 f n
-  leads-all {n} {i} l b =
-      let e : i ≡ n = omega arith in
-      rw e at (l .is)

@@ -33,6 +33,24 @@ module _ {A B : Type 0} (op : A → B → A) (z : A) where
   fold-keeps P f p s zero = p
   fold-keeps P f p s (suc n) = s n (fold op z f n) (fold-keeps P f p s n)
 
+  -- a fold goes on from where a part of it ended
+  pub fold-more : (f : ℕ → B) (m n : ℕ) → fold op z f (m + n) ≡ fold op (fold op z f m) (λ k. f (m + k)) n
+  unfolding fold
+  fold-more f m zero = rw add-zero
+  fold-more f m (suc n) = rw (add-suc, fold-more f m n)
+
+  -- all of it is the part from 0 on
+  pub fold-first : (f : ℕ → B) (n : ℕ) → fold op z (λ k. f (0 + k)) (n - 0) ≡ fold op z f n
+  fold-first f n =
+      let q : n - 0 ≡ n = omega arith in
+      rw q (fold-ext _ f n (λ k b. ap f (omega arith)))
+
+  -- entries of which none changes z
+  pub fold-still : (f : ℕ → B) (n : ℕ) → ((k : ℕ) → k < n → op z (f k) ≡ z) → z ≡ fold op z f n
+  unfolding fold
+  fold-still f zero h = refl
+  fold-still f (suc n) h = sym (h n (omega arith)) ∙ rw (← fold-still f n (λ k b. h k (omega arith)))
+
   -- ---- `for i in a..e { acc = op(acc, v); }`: the entries from a and below i are folded
 
   pub record Folding (f : ℕ → B) (a e i : ℕ) (acc : A) : Type 0 where
@@ -53,6 +71,28 @@ module _ {A B : Type 0} (op : A → B → A) (z : A) where
       let q : i ≡ e = omega arith in
       rw q at (r .is)
 
+module _ {A B : Type 0} (op : A → B → A) (z : A) (f : ℕ → B) (a e : ℕ) where
+  -- several entries at once
+  pub folding-part : {i : ℕ} {acc r : A} (d j : ℕ) → Folding op z f a e i acc → j ≡ i + d → j ≤ e → r ≡ fold op acc (λ k. f (i + k)) d → Folding op z f a e j r
+  folding-part {i} {acc} d j t q b u =
+      let g : ℕ → B = λ k. f (a + k) in
+      let n : j - a ≡ i - a + d = omega arith in
+      let w : fold op acc (λ k. f (i + k)) d ≡ fold op acc (λ k. g (i - a + k)) d = fold-ext op acc _ _ d (λ k l. ap f (omega arith)) in
+      record { least = omega arith; most = b; is = u ∙ w ∙ rw (n, fold-more op z g (i - a) d, t .is) }
+
+  -- and all that are left
+  pub folding-rest : {i : ℕ} {acc r : A} → Folding op z f a e i acc → r ≡ fold op acc (λ k. f (i + k)) (e - i) → r ≡ fold op z (λ k. f (a + k)) (e - a)
+  folding-rest {i} t u = folding-part (e - i) e t (omega arith) (omega arith) u .is
+
+-- in two parts, each folded from z, where op lets them be grouped so: the law behind every running sum
+module _ {A : Type 0} (op : A → A → A) (z : A) (f : ℕ → A) (m : ℕ) where
+  pub fold-split : fold op z f m ≡ op (fold op z f m) z
+      → ((n : ℕ) (v : A) → op (op (fold op z f m) (fold op z (λ k. f (m + k)) n)) v ≡ op (fold op z f m) (op (fold op z (λ k. f (m + k)) n) v))
+      → (n : ℕ) → fold op z f (m + n) ≡ op (fold op z f m) (fold op z (λ k. f (m + k)) n)
+  unfolding fold
+  fold-split u s zero = rw add-zero u
+  fold-split u s (suc n) = rw (add-suc, fold-split u s n) (s n (f (m + n)))
+
 -- ---- whole sums: f 0 + .. + f (n - 1)
 
 abbrev pub sumTo : (ℕ → ℕ) → ℕ → ℕ
@@ -62,11 +102,8 @@ pub sum-one : (f : ℕ → ℕ) → sumTo f 1 ≡ f 0
 unfolding fold
 sum-one f = omega arith
 
--- in two parts: the law behind every running sum
 pub sum-split : (f : ℕ → ℕ) (m n : ℕ) → sumTo f (m + n) ≡ sumTo f m + sumTo (λ k. f (m + k)) n
-unfolding fold
-sum-split f m zero = rw add-zero (omega arith)
-sum-split f m (suc n) = rw add-suc (omega (arith, sum-split f m n))
+sum-split f m n = fold-split _+_ 0 f m (omega arith) (λ k v. omega arith) n
 
 sum-suc : (f : ℕ → ℕ) (n : ℕ) → sumTo f (suc n) ≡ sumTo f n + f n
 unfolding fold
