@@ -4,10 +4,12 @@ use mathlib.Core.Logic.{inl, inr}
 use mathlib.Core.Bool.{Bool, true, false, _||_, true≢false}
 use Prim.Native.Nat.{ℕ, _+_, _≤_, _<_}
 use native.Mathlib.Decide.{decLe}
+use native.Mathlib.Nat.{add-zero}
 use native.Mathlib.Omega.{arith}
 use mathlib.Core.List.{List}
 use lib.ListN.{length, take}
 use lib.Seq.{length-take-le, getD-take}
+use lib.Dec.{lit<}
 use lib.Ieee.{Float, nan, lt}
 use Rattle.detect.specs.Above.{over, crest, Reached, eight, None, Next}
 
@@ -75,6 +77,12 @@ module _ (p : ℕ → Bool) (a e : ℕ) where
 pub eight-is : (p : ℕ → Bool) (i : ℕ) {a b c d e f g h : Bool} → a ≡ p i → b ≡ p (i + 1) → c ≡ p (i + 2) → d ≡ p (i + 3) → e ≡ p (i + 4) → f ≡ p (i + 5) → g ≡ p (i + 6) → h ≡ p (i + 7)
     → (((a || b) || c) || d) || (((e || f) || g) || h) ≡ eight p i
 eight-is p i a b c d e f g h = rw (a, b, c, d, e, f, g, h)
+
+-- none of the eight is a crest where none is above the floor
+pub no-crests : (floor : Float) (s : List Float) (i : ℕ) → eight (over floor s) i ≡ false → false ≡ eight (crest floor s) i
+no-crests floor s i h =
+    let n : (k : ℕ) → k < 8 → false ≡ crest floor s (i + k) = λ k b. sym (rw (none-eight (over floor s) i h (i + k) (omega arith) (omega arith))) in
+    eight-is (crest floor s) i (rw add-zero at (n 0 (lit< tt))) (n 1 (lit< tt)) (n 2 (lit< tt)) (n 3 (lit< tt)) (n 4 (lit< tt)) (n 5 (lit< tt)) (n 6 (lit< tt)) (n 7 (lit< tt))
 
 -- ---- the next place that is worth a verdict
 

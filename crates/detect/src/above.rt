@@ -61,6 +61,17 @@ fn eight_crests(s: &[f32], i: usize, floor: f32) -> bool
             | is_crest(s, i + 7, floor))
 }
 
+// The same, asked in two steps: mostly none of the eight is above the floor, and no neighbour need be read.
+fn any_crest(s: &[f32], i: usize, floor: f32) -> bool
+    requires { ⌜ (1 ≤ i) × (i + 8 < length (now s)) ⌝ }
+    ensures { λ r. ⌜ r ≡ eight (crest floor (now (s .entry))) i ⌝ }
+{
+    if eight_above(s, i, floor) {
+        return eight_crests(s, i, floor);
+    }
+    false
+}
+
 // The first crest from `from` on and before `to`; `to` where there is none.
 fn next_crest(s: &[f32], from: usize, to: usize, floor: f32) -> usize
     requires { ⌜ (1 ≤ from) × (from ≤ to) × (to < length (now s)) ⌝ }
@@ -68,7 +79,7 @@ fn next_crest(s: &[f32], from: usize, to: usize, floor: f32) -> usize
 {
     let mut i = from;
     while to - i >= 8 {
-        if eight_crests(s, i, floor) {
+        if any_crest(s, i, floor) {
             break;
         }
         i += 8;

@@ -8,7 +8,7 @@ use Rattle.detect.proofs.above.next_crest.Statement.{statement}
 use Rattle.detect.proofs.above.next_crest.Tie as tie
 use Rattle.detect.proofs.above.next_crest.Reads as reads
 use Rattle.detect.proofs.above.next_crest.Lts as lts
-use Rattle.detect.proofs.above.eight_crests.Reads as eight-crests-reads
+use Rattle.detect.proofs.above.any_crest.Reads as any-crest-reads
 use Rattle.detect.proofs.above.is_crest.Reads as is-crest-reads
 
 abbrev Inv-loop : tie.InvT-loop
@@ -29,8 +29,8 @@ loop-holds c = passed-none _ _ _ (omega arith)
 sub-loop : tie.Need-sub-loop Inv-loop μ-loop Inv-loop2 μ-loop2
 sub-loop c = omega arith
 
-eight-crests-requires : tie.Need-eight-crests-requires Inv-loop μ-loop Inv-loop2 μ-loop2
-eight-crests-requires c κs = omega arith
+any-crest-requires : tie.Need-any-crest-requires Inv-loop μ-loop Inv-loop2 μ-loop2
+any-crest-requires c κs = omega arith
 
 add-i : tie.Need-add-i Inv-loop μ-loop Inv-loop2 μ-loop2
 add-i c = omega arith
@@ -41,7 +41,7 @@ loop-less c = omega arith
 loop-again : tie.Need-loop-again Inv-loop μ-loop Inv-loop2 μ-loop2
 loop-again c =
     let t = c .before .before in
-    passed-eight _ _ _ (t .before .loop .inv) (omega arith) (sym (c .before .eight-crests .ensures) ∙ c .if1 .left)
+    passed-eight _ _ _ (t .before .loop .inv) (omega arith) (sym (c .before .any-crest .ensures) ∙ c .if1 .left)
 
 loop2-holds : tie.Need-loop2-holds Inv-loop μ-loop Inv-loop2 μ-loop2
 loop2-holds c = c .before .loop .inv
@@ -74,7 +74,7 @@ next-crest-spec =
     μ-loop2
     loop-holds
     sub-loop
-    eight-crests-requires
+    any-crest-requires
     add-i
     loop-less
     loop-again
