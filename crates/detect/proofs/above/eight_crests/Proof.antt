@@ -1,60 +1,9 @@
 -- `detect::above::eight_crests` meets its contract: the eight answers, put together. Assumes nothing.
-use mathlib.Core.Path.{_≡_, refl, sym, ap, _∙_}
-use Prim.Native.Nat.{ℕ, _+_, _-_, _*_, _≤_, _<_}
-use native.Mathlib.Omega.{arith}
 use Rattle.detect.specs.Above.{crest}
 use Rattle.detect.proofs.Passing.{eight-is}
 use borrow.Author.Needs.{needs}
 use Rattle.detect.proofs.above.eight_crests.Statement.{statement}
 use Rattle.detect.proofs.above.eight_crests.Tie as tie
-use Rattle.detect.proofs.above.eight_crests.Reads as reads
-use Rattle.detect.proofs.above.eight_crests.Lts as lts
-use Rattle.detect.proofs.above.is_crest.Reads as is-crest-reads
-
-is-crest-requires : tie.Need-is-crest-requires
-is-crest-requires c κs = search needs
-
-add-is-crest : tie.Need-add-is-crest
-add-is-crest c = search needs
-
-is-crest-requires-2 : tie.Need-is-crest-requires-2
-is-crest-requires-2 c κs = search needs
-
-add-is-crest-2 : tie.Need-add-is-crest-2
-add-is-crest-2 c = search needs
-
-is-crest-requires-3 : tie.Need-is-crest-requires-3
-is-crest-requires-3 c κs = search needs
-
-add-is-crest-3 : tie.Need-add-is-crest-3
-add-is-crest-3 c = search needs
-
-is-crest-requires-4 : tie.Need-is-crest-requires-4
-is-crest-requires-4 c κs = search needs
-
-add-is-crest-4 : tie.Need-add-is-crest-4
-add-is-crest-4 c = search needs
-
-is-crest-requires-5 : tie.Need-is-crest-requires-5
-is-crest-requires-5 c κs = search needs
-
-add-is-crest-5 : tie.Need-add-is-crest-5
-add-is-crest-5 c = search needs
-
-is-crest-requires-6 : tie.Need-is-crest-requires-6
-is-crest-requires-6 c κs = search needs
-
-add-is-crest-6 : tie.Need-add-is-crest-6
-add-is-crest-6 c = search needs
-
-is-crest-requires-7 : tie.Need-is-crest-requires-7
-is-crest-requires-7 c κs = search needs
-
-add-is-crest-7 : tie.Need-add-is-crest-7
-add-is-crest-7 c = search needs
-
-is-crest-requires-8 : tie.Need-is-crest-requires-8
-is-crest-requires-8 c κs = search needs
 
 returns : tie.Need-returns
 returns c =
@@ -65,19 +14,19 @@ pub eight-crests-spec : {M : Type 1} → statement M
 eight-crests-spec =
     tie.close
     (tie.spec
-    is-crest-requires
-    add-is-crest
-    is-crest-requires-2
-    add-is-crest-2
-    is-crest-requires-3
-    add-is-crest-3
-    is-crest-requires-4
-    add-is-crest-4
-    is-crest-requires-5
-    add-is-crest-5
-    is-crest-requires-6
-    add-is-crest-6
-    is-crest-requires-7
-    add-is-crest-7
-    is-crest-requires-8
+    (λ c κs. search needs)
+    (λ c. search needs)
+    (λ c κs. search needs)
+    (λ c. search needs)
+    (λ c κs. search needs)
+    (λ c. search needs)
+    (λ c κs. search needs)
+    (λ c. search needs)
+    (λ c κs. search needs)
+    (λ c. search needs)
+    (λ c κs. search needs)
+    (λ c. search needs)
+    (λ c κs. search needs)
+    (λ c. search needs)
+    (λ c κs. search needs)
     returns)

@@ -1,6 +1,6 @@
 -- `detect::above::next_candidate` meets its contract, by the search that the radius asks for. Assumes nothing.
-use mathlib.Core.Path.{_≡_, refl, sym, ap, _∙_}
-use Prim.Native.Nat.{ℕ, _+_, _-_, _*_, _≤_, _<_}
+use mathlib.Core.Path.{sym}
+use Prim.Native.Nat.{_≤_}
 use native.Mathlib.Omega.{arith}
 use lib.ListN.{length}
 use lib.Seq.{length-take-le}
@@ -8,21 +8,11 @@ use Rattle.detect.proofs.Passing.{reached-crest, reached-above}
 use borrow.Author.Needs.{needs}
 use Rattle.detect.proofs.above.next_candidate.Statement.{statement}
 use Rattle.detect.proofs.above.next_candidate.Tie as tie
-use Rattle.detect.proofs.above.next_candidate.Reads as reads
-use Rattle.detect.proofs.above.next_candidate.Lts as lts
-use Rattle.detect.proofs.above.next_above.Reads as next-above-reads
-use Rattle.detect.proofs.above.next_crest.Reads as next-crest-reads
-
-next-crest-requires : tie.Need-next-crest-requires
-next-crest-requires c κs = search needs
 
 returns : tie.Need-returns
 returns c =
     let o = c .before .before .before .args in
     reached-crest (o .r) (o .floor) (o .s .now) (c .before .if1 .taken) (c .next-crest .ensures)
-
-slice-aggregate-next-above : tie.Need-slice-aggregate-next-above
-slice-aggregate-next-above c = sym (length-take-le _ (c .before .before .before .args .s .now) (omega arith))
 
 next-above-requires : tie.Need-next-above-requires
 next-above-requires c κs =
@@ -38,4 +28,4 @@ returns-2 c =
 pub next-candidate-spec : {M : Type 1} → statement M
 next-candidate-spec =
     tie.close
-    (tie.spec next-crest-requires returns slice-aggregate-next-above next-above-requires returns-2)
+    (tie.spec (λ c κs. search needs) returns (λ c. sym (length-take-le _ (c .before .before .before .args .s .now) (omega arith))) next-above-requires returns-2)
