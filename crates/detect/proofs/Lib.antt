@@ -3,7 +3,6 @@ pub mod Exact
 pub mod Walk
 pub mod Sign
 pub mod Reach
-pub mod Disks
 pub mod Rooted
 pub mod Offsets
 pub mod AsRust

@@ -2,3 +2,4 @@
 pub mod Demands
 pub mod TableP
 pub mod Cases
+pub mod SaddleNumbers
