@@ -2,7 +2,6 @@
 use mathlib.Core.Path.{_≡_, refl}
 use Prim.Native.Nat.{ℕ}
 use denote.Ref.{now}
-use borrow.Author.Needs.{needs}
 use Rattle.response.specs.Map.{Buffers as MapBuffers, roomOf}
 use Rattle.response.proofs.Cases.{room-by}
 use Rattle.radon.specs.Finder.{Buffers}
@@ -37,13 +36,17 @@ returns c =
     let s = start j in
     when-refused (now (s .args .img)) (s .args .w) (s .args .h) (s .args .p) (lent s) (room-is j) (j .judge .ensures) (c .before .before .number .ensures) (c .before .if1 .taken) (c .refusal .ensures)
 
+-- from the end back to the call that makes the map
+abbrev the-map : tie.After-slice-known16 → tie.After-radon-response-u8
+the-map c = c .before .before .before .before .before .before .before .before .before .before .before .before .before .before .before .before .before .before .before .before
+
 returns-2 : tie.Need-returns-2
 returns-2 c =
-    let j = c .before .before .before .before .before .before .before .before .before .before .before .before .before .before .before .before .before .before .before .before .before .before .before .before .before .before .before .before .before .before in
+    let j = the-map c .before .before .before .before .before .before .before .before .before .before in
     let s = start j in
-    when-accepted (now (s .args .img)) (s .args .w) (s .args .h) (s .args .p) (lent s) (room-is j) (j .judge .ensures) (c .before .before .before .before .before .before .before .before .before .before .before .before .before .before .before .before .before .before .before .before .before .before .before .before .before .before .before .before .before .number .ensures) (c .before .before .before .before .before .before .before .before .before .before .before .before .before .before .before .before .before .before .before .before .before .before .before .before .before .before .before .before .if1 .left)
-    (c .before .before .before .before .before .before .before .before .before .before .before .before .before .before .before .before .before .before .before .before .radon-response-u8 .ensures .0)
-    (c .before .before .before .before .before .before .before .before .before .before .before .before .before .before .before .before .before .before .before .before .radon-response-u8 .ensures .1)
+    when-accepted (now (s .args .img)) (s .args .w) (s .args .h) (s .args .p) (lent s) (room-is j) (j .judge .ensures) (the-map c .before .before .before .before .before .before .before .before .before .number .ensures) (the-map c .before .before .before .before .before .before .before .before .if1 .left)
+    (the-map c .radon-response-u8 .ensures .0)
+    (the-map c .radon-response-u8 .ensures .1)
     (c .before .before .detect-peaks-from-radon .ensures .0)
     (c .before .before .detect-peaks-from-radon .ensures .1)
 
@@ -51,24 +54,24 @@ pub radon-corners-u8-spec : {M : Type 1} → statement M
 radon-corners-u8-spec =
     tie.close
     (tie.spec
-    (λ c κs. search needs)
-    (λ c κs. search needs)
-    (λ c κs. search needs)
-    (λ c κs. search needs)
-    (λ c κs. search needs)
-    (λ c κs. search needs)
-    (λ c κs. search needs)
-    (λ c κs. search needs)
-    (λ c κs. search needs)
+    (λ c κs. tt)
+    (λ c κs. tt)
+    (λ c κs. tt)
+    (λ c κs. tt)
+    (λ c κs. tt)
+    (λ c κs. tt)
+    (λ c κs. tt)
+    (λ c κs. tt)
+    (λ c κs. tt)
     returns
-    (λ c κs. search needs)
-    (λ c κs. search needs)
-    (λ c. search needs)
-    (λ c. search needs)
-    (λ c. search needs)
-    (λ c. search needs)
-    (λ c. search needs)
-    (λ c. search needs)
-    (λ c. search needs)
-    (λ c. search needs)
+    (λ c κs. tt)
+    (λ c κs. tt)
+    (λ c. the-map c .radon-response-u8 .kept .1 .1 .1 .1 .0)
+    (λ c. the-map c .radon-response-u8 .kept .1 .1 .1 .1 .1 .0)
+    (λ c. the-map c .radon-response-u8 .kept .1 .1 .1 .1 .1 .1 .0)
+    (λ c. the-map c .radon-response-u8 .kept .1 .1 .1 .1 .1 .1 .1 .0)
+    (λ c. the-map c .radon-response-u8 .kept .1 .1 .1 .1 .1 .1 .1 .1 .0)
+    (λ c. the-map c .radon-response-u8 .kept .1 .1 .1 .1 .1 .1 .1 .1 .1 .0)
+    (λ c. the-map c .radon-response-u8 .kept .1 .1 .1 .1 .1 .1 .1 .1 .1 .1 .0)
+    (λ c. c .before .before .detect-peaks-from-radon .kept .1 .1 .1 .1 .1 .0)
     returns-2)

@@ -4,7 +4,7 @@ use Prim.Native.Nat.{ℕ, _*_, _≤_}
 use mir.Facts.{fits-le, fits-lit}
 use denote.Ref.{now}
 use lib.ListN.{length}
-use borrow.Author.Needs.{needs}
+use borrow.Author.Needs.{needs, fits-under}
 use Rattle.response.specs.Map.{Buffers, roomOf}
 use Rattle.response.specs.Runs.{Runs, runs-of, side-most}
 use Rattle.response.proofs.Cases.{room-by, number-zero, when-refused, when-accepted}
@@ -44,41 +44,45 @@ runs c =
     runs-of (s .args .w) (s .args .h) (s .args .p) (length (now (s .args .img))) (lent s) (c .before .image-upsample-clamped .ensures) (c .ray-radius-clamped .ensures) refl
     (number-zero (now (s .args .img)) (s .args .w) (s .args .h) (s .args .p) (lent s) (room-is j) (j .judge-for-map .ensures) (c .before .before .before .number .ensures) (c .before .before .if1 .left))
 
+-- from the end back to the passes
+abbrev ran : tie.After-slice-known14 → tie.After-run
+ran c = c .before .before .before .before .before .before .before .before .before .before .before .before .before .before
+
 returns-2 : tie.Need-returns-2
 returns-2 c =
-    let r = c .before .before .before .before .before .before .before .before .before .before .before .before .before .before .before .before .before .before .before .before .before .before .before in
+    let r = ran c .before .before .before .before .before .before .before .before .before in
     let j = r .before .before .before .before in
     let s = start j in
     when-accepted (now (s .args .img)) (s .args .w) (s .args .h) (s .args .p) (lent s) (room-is j) (j .judge-for-map .ensures) (r .before .before .before .number .ensures) (r .before .before .if1 .left)
-    (r .before .image-upsample-clamped .ensures) (r .ray-radius-clamped .ensures) refl (c .before .before .before .before .before .before .before .before .before .before .before .before .before .before .run .ensures)
+    (r .before .image-upsample-clamped .ensures) (r .ray-radius-clamped .ensures) refl (ran c .run .ensures)
 
 pub radon-response-u8-spec : {M : Type 1} → statement M
 radon-response-u8-spec =
     tie.close
     (tie.spec
-    (λ c κs. search needs)
-    (λ c κs. search needs)
-    (λ c κs. search needs)
-    (λ c κs. search needs)
-    (λ c κs. search needs)
-    (λ c κs. search needs)
-    (λ c κs. search needs)
-    (λ c κs. search needs)
+    (λ c κs. tt)
+    (λ c κs. tt)
+    (λ c κs. tt)
+    (λ c κs. tt)
+    (λ c κs. tt)
+    (λ c κs. tt)
+    (λ c κs. tt)
+    (λ c κs. tt)
     returns
-    (λ c κs. search needs)
-    (λ c κs. search needs)
-    (λ c. search needs)
+    (λ c κs. tt)
+    (λ c κs. tt)
+    (λ c. fits-under _ _ _ (c .ray-radius-clamped .ok) tt)
     (λ c. search needs)
     (λ c κs. runs (c .before .before .before .before .before .before .before .before))
-    (λ c. search needs)
-    (λ c. fits-le (side-most (runs (c .before .before .before .before .before .before .before .before .before .before .before .before .before .before .before .before .before .before .before .before .before .before .before) .two) (runs (c .before .before .before .before .before .before .before .before .before .before .before .before .before .before .before .before .before .before .before .before .before .before .before) .wide)) (fits-lit tt))
-    (λ c. search needs)
-    (λ c. fits-le (side-most (runs (c .before .before .before .before .before .before .before .before .before .before .before .before .before .before .before .before .before .before .before .before .before .before .before) .two) (runs (c .before .before .before .before .before .before .before .before .before .before .before .before .before .before .before .before .before .before .before .before .before .before .before) .high)) (fits-lit tt))
-    (λ c. search needs)
-    (λ c. search needs)
-    (λ c. search needs)
-    (λ c. search needs)
-    (λ c. search needs)
-    (λ c. search needs)
-    (λ c. search needs)
+    (λ c. fits-under _ _ _ (ran c .before .before .before .before .before .before .before .before .before .before .image-upsample-clamped .ok) tt)
+    (λ c. fits-le (side-most (runs (ran c .before .before .before .before .before .before .before .before .before) .two) (runs (ran c .before .before .before .before .before .before .before .before .before) .wide)) (fits-lit tt))
+    (λ c. fits-under _ _ _ (ran c .before .before .before .before .before .before .before .before .before .before .image-upsample-clamped .ok) tt)
+    (λ c. fits-le (side-most (runs (ran c .before .before .before .before .before .before .before .before .before) .two) (runs (ran c .before .before .before .before .before .before .before .before .before) .high)) (fits-lit tt))
+    (λ c. ran c .run .kept .1 .1 .1 .1 .1 .1 .0)
+    (λ c. ran c .run .kept .1 .1 .1 .1 .1 .1 .1 .0)
+    (λ c. ran c .run .kept .1 .1 .1 .1 .1 .1 .1 .1 .0)
+    (λ c. ran c .run .kept .1 .1 .1 .1 .1 .1 .1 .1 .1 .0)
+    (λ c. ran c .run .kept .1 .1 .1 .1 .1 .1 .1 .1 .1 .1 .0)
+    (λ c. ran c .run .kept .1 .1 .1 .1 .1 .1 .1 .1 .1 .1 .1 .0)
+    (λ c. ran c .run .kept .1 .1 .1 .1 .1 .1 .1 .1 .1 .1 .1 .1 .0)
     returns-2)

@@ -30,30 +30,34 @@ returns c =
     let s = start r in
     when-refused (now (s .args .file)) (lent s) (r .read .ensures) _ (c .before .before .reading .given .1) (c .refusal .ensures)
 
+-- from the end back to the finder's call
+abbrev found : tie.After-slice-known16 → tie.After-radon-corners-u8
+found c = c .before .before .before .before .before .before .before .before .before .before .before .before .before .before .before .before
+
 returns-2 : tie.Need-returns-2
 returns-2 c =
-    let f = c .before .before .before .before .before .before .before .before .before .before .before .before .before .before .before .before in
-    let r = c .before .before .before .before .before .before .before .before .before .before .before .before .before .before .before .before .before .before .before .before .before .before .before .before .before .before .before .before .before in
+    let f = found c in
+    let r = found c .before .before .before .before .before .before .before .before .before .before .before .before .before in
     let s = start r in
-    when-read (now (s .args .file)) (lent s) (r .read .ensures) (now (c .before .before .before .before .before .before .before .before .before .before .before .before .before .before .before .before .before .before .before .before .before .before .before .before .before .pixels .result)) _ (c .before .before .before .before .before .before .before .before .before .before .before .before .before .before .before .before .before .before .before .before .before .before .before .before .before .before .before .reading2 .given .1) (c .before .before .before .before .before .before .before .before .before .before .before .before .before .before .before .before .before .before .before .before .before .before .before .before .before .pixels .ensures) (f .radon-corners-u8 .ensures .0) (f .radon-corners-u8 .ensures .1)
+    when-read (now (s .args .file)) (lent s) (r .read .ensures) (now (found c .before .before .before .before .before .before .before .before .before .pixels .result)) _ (found c .before .before .before .before .before .before .before .before .before .before .before .reading2 .given .1) (found c .before .before .before .before .before .before .before .before .before .pixels .ensures) (f .radon-corners-u8 .ensures .0) (f .radon-corners-u8 .ensures .1)
 
 pub run-spec : {M : Type 1} → statement M
 run-spec =
     tie.close
     (tie.spec
-    (λ c κs. search needs)
+    (λ c κs. tt)
     (λ c. search needs)
-    (λ c κs. search needs)
+    (λ c κs. tt)
     (λ c. search needs)
-    (λ c κs. search needs)
-    (λ c κs. search needs)
+    (λ c κs. tt)
+    (λ c κs. tt)
     returns
-    (λ c. search needs)
-    (λ c. search needs)
-    (λ c. search needs)
-    (λ c. search needs)
-    (λ c. search needs)
-    (λ c. search needs)
-    (λ c. search needs)
-    (λ c. search needs)
+    (λ c. found c .radon-corners-u8 .kept .1 .1 .1 .1 .0)
+    (λ c. found c .radon-corners-u8 .kept .1 .1 .1 .1 .1 .0)
+    (λ c. found c .radon-corners-u8 .kept .1 .1 .1 .1 .1 .1 .0)
+    (λ c. found c .radon-corners-u8 .kept .1 .1 .1 .1 .1 .1 .1 .0)
+    (λ c. found c .radon-corners-u8 .kept .1 .1 .1 .1 .1 .1 .1 .1 .0)
+    (λ c. found c .radon-corners-u8 .kept .1 .1 .1 .1 .1 .1 .1 .1 .1 .0)
+    (λ c. found c .radon-corners-u8 .kept .1 .1 .1 .1 .1 .1 .1 .1 .1 .1 .0)
+    (λ c. found c .radon-corners-u8 .kept .1 .1 .1 .1 .1 .1 .1 .1 .1 .1 .1 .0)
     returns-2)

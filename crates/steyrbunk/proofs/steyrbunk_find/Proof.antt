@@ -30,31 +30,35 @@ returns c =
     let s = c .before .before .before .before .before .before .before .before .before .before .before .before .before .before .before .before .before in
     find-refused (settings s) (c .before .before .before .before .before .before .before .settings-of .ensures) (now (s .args .image)) (s .args .width) (s .args .height) (lent s) (c .tell .ensures) (c .before .before .before .before .before .enum-told .given .1) (c .before .before .before .before .refusal .ensures)
 
+-- from the end back to the finder's call
+abbrev found : tie.After-tell2 → tie.After-radon-corners-u8
+found c = c .before .before .before .before .before .before .before .before .before .before .before .before .before .before .before .before .before .before .before .before
+
 returns-2 : tie.Need-returns-2
 returns-2 c =
-    let s = c .before .before .before .before .before .before .before .before .before .before .before .before .before .before .before .before .before .before .before .before .before .before .before .before .before .before .before .before .before .before .before .before .before .before .before .before .before .before .before .before .before .before in
-    find-given (settings s) (c .before .before .before .before .before .before .before .before .before .before .before .before .before .before .before .before .before .before .before .before .before .before .before .before .before .before .before .before .before .before .before .before .settings-of .ensures) (now (s .args .image)) (s .args .width) (s .args .height) (lent s) (c .tell2 .ensures) (c .before .before .before .before .before .before .before .before .before .before .before .before .before .before .before .before .before .before .before .before .before .before .before .before .before .before .before .before .before .before .p .given .1)
-    (c .before .before .before .before .before .before .before .before .before .before .before .before .before .before .before .before .before .before .before .before .radon-corners-u8 .ensures .0)
-    (c .before .before .before .before .before .before .before .before .before .before .before .before .before .before .before .before .before .before .before .before .radon-corners-u8 .ensures .1)
+    let s = found c .before .before .before .before .before .before .before .before .before .before .before .before .before .before .before .before .before .before .before .before .before .before in
+    find-given (settings s) (found c .before .before .before .before .before .before .before .before .before .before .before .before .settings-of .ensures) (now (s .args .image)) (s .args .width) (s .args .height) (lent s) (c .tell2 .ensures) (found c .before .before .before .before .before .before .before .before .before .before .p .given .1)
+    (found c .radon-corners-u8 .ensures .0)
+    (found c .radon-corners-u8 .ensures .1)
 
 pub steyrbunk-find-spec : {M : Type 1} → statement M
 steyrbunk-find-spec =
     tie.close
     (tie.spec
-    (λ c κs. search needs)
+    (λ c κs. tt)
     (λ c. search needs)
     (λ c. search needs)
-    (λ c κs. search needs)
-    (λ c κs. search needs)
+    (λ c κs. tt)
+    (λ c κs. tt)
     returns
-    (λ c κs. search needs)
-    (λ c κs. search needs)
-    (λ c. search needs)
-    (λ c. search needs)
-    (λ c. search needs)
-    (λ c. search needs)
-    (λ c. search needs)
-    (λ c. search needs)
-    (λ c. search needs)
-    (λ c. search needs)
+    (λ c κs. tt)
+    (λ c κs. tt)
+    (λ c. found c .radon-corners-u8 .kept .1 .1 .1 .1 .0)
+    (λ c. found c .radon-corners-u8 .kept .1 .1 .1 .1 .1 .0)
+    (λ c. found c .radon-corners-u8 .kept .1 .1 .1 .1 .1 .1 .0)
+    (λ c. found c .radon-corners-u8 .kept .1 .1 .1 .1 .1 .1 .1 .0)
+    (λ c. found c .radon-corners-u8 .kept .1 .1 .1 .1 .1 .1 .1 .1 .0)
+    (λ c. found c .radon-corners-u8 .kept .1 .1 .1 .1 .1 .1 .1 .1 .1 .0)
+    (λ c. found c .radon-corners-u8 .kept .1 .1 .1 .1 .1 .1 .1 .1 .1 .1 .0)
+    (λ c. found c .radon-corners-u8 .kept .1 .1 .1 .1 .1 .1 .1 .1 .1 .1 .1 .0)
     returns-2)

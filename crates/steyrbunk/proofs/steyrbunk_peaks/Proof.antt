@@ -27,12 +27,12 @@ pub steyrbunk-peaks-spec : {M : Type 1} → statement M
 steyrbunk-peaks-spec =
     tie.close
     (tie.spec
-    (λ c κs. search needs)
+    (λ c κs. tt)
     (λ c. search needs)
     (λ c. search needs)
-    (λ c κs. search needs)
+    (λ c κs. tt)
     returns
-    (λ c κs. search needs)
-    (λ c κs. search needs)
-    (λ c. search needs)
+    (λ c κs. tt)
+    (λ c κs. tt)
+    (λ c. c .before .before .before .detect-peaks-from-radon .kept .1 .1 .1 .1 .1 .0)
     returns-2)

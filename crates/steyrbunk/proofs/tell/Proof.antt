@@ -1,5 +1,4 @@
 -- `steyrbunk::tell` meets its contract. Assumes nothing.
-use borrow.Author.Needs.{needs}
 use Rattle.steyrbunk.proofs.tell.Statement.{statement}
 use Rattle.steyrbunk.proofs.tell.Tie as tie
 
@@ -7,4 +6,4 @@ returns : tie.Need-returns
 returns c = rw (c .number .ensures)
 
 pub tell-spec : {M : Type 1} → statement M
-tell-spec = tie.close (tie.spec (λ c κs. search needs) returns)
+tell-spec = tie.close (tie.spec (λ c κs. tt) returns)
