@@ -1,6 +1,7 @@
--- Steps of the proofs: the turns of loops, the laws behind them, and the passes one after the other.
+-- Steps of the proofs: the turns of loops, the laws behind them, and the passes one after the other; and what the map is at one place.
 pub mod Upsampling
 pub mod Running
 pub mod Rows
 pub mod Composed
 pub mod Cases
+pub mod Places
