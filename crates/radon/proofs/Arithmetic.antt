@@ -1,5 +1,5 @@
--- Facts about the list's arithmetic, of the definitions alone: the saddle test's root is never "outside", and a fitted offset is a number from -0.5 to 0.5.
--- The logarithm's bound is said of a call's own map values, in Demands. Assumes nothing.
+-- Facts about the list's arithmetic, of the definitions alone: the saddle test's root is never "outside", and a fitted offset is a number
+-- from -0.5 to 0.5. The logarithm's bound is said of a call's own map values, in Demands. Assumes nothing.
 use mathlib.Core.Path.{_≡_}
 use Prim.Native.Nat.{ℕ, _≤_}
 use lib.Ieee.{Float}

@@ -1,5 +1,6 @@
 -- Steps from the definitions to the buffers that an accepted call leaves: which entry has which pixel or map value. Assumes nothing.
 use mathlib.Core.Path.{_≡_, refl, sym, ap, _∙_}
+use mathlib.Core.Logic.{_⊎_}
 use mathlib.Core.Bool.{Bool, true, false}
 use mathlib.Core.List.{List}
 use Prim.Native.Nat.{ℕ, _+_, _*_, _/_, _%_, _≤_, _<_}
@@ -10,24 +11,27 @@ use mir.Syntax.{w8}
 use mir.Val.{Fits}
 use lib.Dec.{T}
 use lib.ListN.{length, getD, take}
-use lib.Ieee.{Float, nan, binary32, fits, le}
+use lib.Ieee.{Float, nan, le}
+use Rattle.float.specs.Values.{f0}
 use Rattle.grid.specs.Fill.{written-same}
 use Rattle.grid.specs.Plane.{pixel-in, column-in, row-number-in, plane-ext}
 use Rattle.grid.specs.Ways.{pixel}
-use Rattle.scalar.specs.Log.{logOf, terms, high, lowest, highest, Near}
-use Rattle.scalar.specs.declared.Log.the-variants.{Value}
-use Rattle.scalar.proofs.Facts.{log-near, log-inside}
+use Rattle.scalar.specs.Log.{high, lowest, highest}
 use Rattle.params.specs.declared.RadonDetectorParams.{RadonDetectorParams}
 use Rattle.params.specs.Settings.{factorOf, rayOf}
 use Rattle.params.specs.Answers.{numberOf}
 use Rattle.response.specs.Map.{Buffers as MapBuffers, sideOf, workOf, mapOf, mapped, mappedBy}
 use Rattle.response.specs.Runs.{Runs}
-use Rattle.response.specs.MapFacts.{raised-frame}
+use Rattle.response.specs.MapFacts.{raised-frame, map-range}
 use Rattle.detect.specs.Window.{value}
 use Rattle.radon.specs.Finder.{Buffers, answered, buffersOf}
 use Rattle.radon.proofs.Cases.{runs-by, map-at, work-at}
 
--- a frame of bytes has no pixel above 255, and none at all is 0
+pub is-true : (t : Bool) → T t → t ≡ true
+is-true true u = refl
+is-true false u = absurd u
+
+-- a frame of bytes has no pixel above 255
 pub byte-most : (img : List ℕ) (w : ℕ) → ((i : ℕ) → Fits w8 (getD img i 0)) → (x y : ℕ) → pixel img w x y ≤ 255
 byte-most img w bytes x y = omega (arith, bytes (y * w + x))
 
@@ -57,6 +61,13 @@ module _ (img : List ℕ) (w h : ℕ) (p : RadonDetectorParams) (b : Buffers) (a
   pub entry-is : (i : ℕ) → i < W * H → getD ((buffersOf img w h p b) .map .response) i nan ≡ mapOf (pixel img w) w h p (i % W) (i / W)
   entry-is i l = rw (div-add-mod' i W) at (response-is (i % W) (i / W) (column-in W H l) (row-number-in W H l))
 
+  -- 0, or from 2^-6 to 2^24
+  pub entry-range : ((i : ℕ) → Fits w8 (getD img i 0)) → (i : ℕ) → i < W * H
+      → let v = mapOf (pixel img w) w h p (i % W) (i / W) in (v ≡ f0) ⊎ (T (le lowest v) × T (le v (highest high)))
+  entry-range bytes i l =
+      map-range (factorOf (p .«image_upsample»)) (rayOf (p .«ray_radius»)) (p .«response_blur_radius») (pixel img w) w h (byte-most img w bytes)
+      (runs .ray-most) (runs .blur-most) (i % W) (i / W) (column-in W H l) (row-number-in W H l)
+
 -- ---- two accepted calls, on a frame and on the same frame raised
 
 module _ (img up : List ℕ) (step w h : ℕ) (p : RadonDetectorParams) (raised : (i : ℕ) → i < w * h → getD up i 0 ≡ getD img i 0 + step) where
@@ -77,21 +88,3 @@ module _ (img up : List ℕ) (step w h : ℕ) (p : RadonDetectorParams) (raised 
   same-response b c k l =
       written-same n _ (c .response) (b .response) l k
       ∙ ap (take n) (plane-ext (sideOf w p) (sideOf h p) (mapOf (pixel up w) w h p) (mapOf (pixel img w) w h p) (b .response) same-places)
-
--- ---- a value in the logarithm's range
-
-pub record Logged (v : Float) : Type 0 where
-  pub least : T (le lowest v)
-  pub most : T (le v (highest high))
-  pub log : Float
-  pub defined : logOf terms high v ≡ Value log
-  pub near : Near terms v log
-
-is-true : (t : Bool) → T t → t ≡ true
-is-true true u = refl
-is-true false u = absurd u
-
-pub logged : (v : Float) → T (fits binary32 v) → T (le lowest v) → T (le v (highest high)) → Logged v
-logged v f l m =
-    let defined = log-inside terms high v (is-true (le lowest v) l) (is-true (le v (highest high)) m) in
-    record { least = l; most = m; log = _; defined = defined; near = log-near v _ f defined }
