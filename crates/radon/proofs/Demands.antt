@@ -24,7 +24,6 @@ use Rattle.scalar.specs.Log.{logOf, terms, high, lowest, highest, Near}
 use Rattle.scalar.specs.declared.Log.the-variants.{Value}
 use Rattle.scalar.proofs.Facts.{log-near, log-inside}
 use Rattle.params.specs.declared.RadonDetectorParams.{RadonDetectorParams}
-use Rattle.params.specs.declared.Outcome.{Outcome}
 use Rattle.params.specs.Settings.{factorOf, rayOf}
 use Rattle.params.specs.Answers.{numberOf, refused}
 use Rattle.params.specs.Accepted.{all-accepted}
@@ -41,7 +40,7 @@ use Rattle.detect.proofs.HigherSettings.{raised, passesHigher, higher-corners}
 use Rattle.radon.specs.Finder.{Buffers, answered, found, outcomeOf, buffersOf}
 use Rattle.radon.proofs.Left.{runs, map-is, working-is, response-is, entry-is, entry-range, same-response, byte-most, is-true}
 
--- none of the refusals applies
+-- none of the refusals 2 to 9 applies: the answer is 0 or 1
 abbrev pub Accepted : List ℕ → ℕ → ℕ → RadonDetectorParams → Buffers → Type 0
 Accepted img w h p b = numberOf (answered img w h p b) ≡ 0
 
@@ -67,7 +66,7 @@ numbersOf img w h p = numbers p (mapOf (pixel img w) w h p)
 abbrev pub stored : List ℕ → ℕ → ℕ → RadonDetectorParams → List Float → ℕ
 stored img w h p list = stride * min (total img w h p) (length list / stride)
 
--- ---- D1. "Bad input gets a numbered refusal, a count of zero and untouched buffers."
+-- ---- D1. "Bad input gets a numbered refusal, a count of zero and untouched buffers." `refused` has count, W and H 0
 
 module _ (img : List ℕ) (w h : ℕ) (p : RadonDetectorParams) (b : Buffers) where
   pub refusal-leaves-all : (Accepted img w h p b → ⊥)
@@ -89,7 +88,8 @@ module _ (img : List ℕ) (w h : ℕ) (p : RadonDetectorParams) (b : Buffers) wh
   -- "Entries beyond stay"
   pub map-beyond-stays : Accepted img w h p b → Stays (pixels w h p) (p .«response_blur_radius») (b .map) ((buffersOf img w h p b) .map)
   map-beyond-stays z =
-      rw (map-is img w h p b z) (stays (factorOf (p .«image_upsample»)) (rayOf (p .«ray_radius»)) (p .«response_blur_radius») (pixel img w) w h (b .map))
+      rw (map-is img w h p b z)
+      (stays (factorOf (p .«image_upsample»)) (rayOf (p .«ray_radius»)) (p .«response_blur_radius») (pixel img w) w h (b .map))
 
   pub list-beyond-stays : Accepted img w h p b
       → drop (stored img w h p (b .list)) ((buffersOf img w h p b) .list) ≡ drop (stored img w h p (b .list)) (b .list)

@@ -1,5 +1,5 @@
 -- Steps from the definitions to the buffers that an accepted call leaves: which entry has which pixel or map value. Assumes nothing.
-use mathlib.Core.Path.{_≡_, refl, sym, ap, _∙_}
+use mathlib.Core.Path.{_≡_, refl, ap, _∙_}
 use mathlib.Core.Logic.{_⊎_}
 use mathlib.Core.Bool.{Bool, true, false}
 use mathlib.Core.List.{List}
@@ -11,7 +11,7 @@ use mir.Syntax.{w8}
 use mir.Val.{Fits}
 use lib.Dec.{T}
 use lib.ListN.{length, getD, take}
-use lib.Ieee.{Float, nan, le}
+use lib.Ieee.{nan, le}
 use Rattle.float.specs.Values.{f0}
 use Rattle.grid.specs.Fill.{written-same}
 use Rattle.grid.specs.Plane.{pixel-in, column-in, row-number-in, plane-ext}

@@ -1,8 +1,8 @@
 -- Document 01's numbers P1 to P10 under one claim (P): what the definitions compute is what the document states, and P10 holds of every image.
 -- Assumes nothing.
 use mathlib.Core.Path.{_≡_, refl, sym}
-use mathlib.Core.Bool.{Bool, true, false, cond}
-use mathlib.Core.List.{List, [], _∷_, _++_}
+use mathlib.Core.Bool.{cond}
+use mathlib.Core.List.{List, [], _∷_}
 use Prim.Native.Nat.{ℕ, _+_, _-_, _*_}
 use lib.Dec.{ltb, lit≤}
 use lib.IntN.{pos}

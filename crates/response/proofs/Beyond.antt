@@ -1,5 +1,5 @@
 -- Document 01, "Entries beyond stay": what the map's passes leave alone in each buffer. Assumes nothing.
-use mathlib.Core.Path.{_≡_, refl, sym, ap, _∙_}
+use mathlib.Core.Path.{_≡_, refl}
 use mathlib.Core.List.{List}
 use Prim.Native.Nat.{ℕ, zero, suc, _*_}
 use lib.ListN.{drop}
@@ -29,7 +29,8 @@ module _ (g : ℕ → ℕ → Float) (w h : ℕ) (old : List Float) where
   unfolding scratched
   unused-scratch r e = rw e
 
-pub stays : (factor ray blur : ℕ) (f : ℕ → ℕ → ℕ) (w h : ℕ) (b : Buffers) → Stays (factor * w * (factor * h)) blur b (mappedBy factor ray blur f w h b)
+pub stays : (factor ray blur : ℕ) (f : ℕ → ℕ → ℕ) (w h : ℕ) (b : Buffers)
+    → Stays (factor * w * (factor * h)) blur b (mappedBy factor ray blur f w h b)
 unfolding mappedBy
 stays factor ray blur f w h b =
     let n = factor * w * (factor * h) in

@@ -1,6 +1,6 @@
 -- What the map's definitions have at one place, in the words of the demands: the working pixel is a quarter-sum or a copy, the unblurred value
 -- is the squared spread of four rays or zero, and every value is an f32. Assumes nothing.
-use mathlib.Core.Path.{_≡_, refl, sym}
+use mathlib.Core.Path.{_≡_, sym}
 use mathlib.Core.Bool.{false}
 use Prim.Native.Nat.{ℕ, zero, suc, _*_, _/_, _≤_, _<_}
 use lib.Dec.{T}
