@@ -85,6 +85,11 @@ module _ (img : List ℕ) (w h : ℕ) (p : RadonDetectorParams) (b : Buffers) wh
   unfolding outcomeOf
   accepted-count z = rw (eq-eqb (numberOf (answered img w h p b)) 0 z)
 
+  -- W and H below are the sides that it reports
+  pub accepted-sides : Accepted img w h p b → ((outcomeOf img w h p b) .w ≡ sideOf w p) × ((outcomeOf img w h p b) .h ≡ sideOf h p)
+  unfolding outcomeOf
+  accepted-sides z = rw (eq-eqb (numberOf (answered img w h p b)) 0 z) (refl, refl)
+
   -- "Entries beyond stay"
   pub map-beyond-stays : Accepted img w h p b → Stays (pixels w h p) (p .«response_blur_radius») (b .map) ((buffersOf img w h p b) .map)
   map-beyond-stays z =
