@@ -64,14 +64,6 @@ fit-central mode m c p = either (allUsable m c p) (mode-central mode m c p) at-z
 pub fit-finite : (mode : PeakFitMode) (m c p : Float) → T (finite (fitOf mode m c p))
 fit-finite mode m c p = central-finite _ (fit-central mode m c p)
 
--- Document 01, P8: "parabolic fits: (1,2,2) gives 0.5, (2,2,1) −0.5, (1,2,3) 0"
-abbrev f3 : Float
-f3 = ofBits binary32 0x4040_0000
-
-pub parabolic-fits : (fitOf Parabolic f1 f2 f2 ≡ half) × (fitOf Parabolic f2 f2 f1 ≡ minusHalf) × (fitOf Parabolic f1 f2 f3 ≡ f0)
-unfolding fitOf ofBits le lt add sub mul div
-parabolic-fits = (refl, refl, refl)
-
 -- equal neighbours: 0 divided by a negative number is -0, as in the Rust
 pub middle-fits : (fitOf Parabolic f1 f2 f1 ≡ ofBits binary32 0x8000_0000) × (fitOf Gaussian f1 f2 f1 ≡ ofBits binary32 0x8000_0000)
 unfolding fitOf ofBits le lt add sub mul div logOf toBits

@@ -84,11 +84,11 @@ module _ (f : ℕ → ℕ → ℕ) (w h : ℕ) (p : RadonDetectorParams) (b : Ma
   abbrev H : ℕ
   H = sideOf h p
 
-  map-at : (x y : ℕ) → x < W → y < H → value ((mapped f w h p b) .response) W x y ≡ mapOf f w h p x y
+  pub map-at : (x y : ℕ) → x < W → y < H → value ((mapped f w h p b) .response) W x y ≡ mapOf f w h p x y
   unfolding mappedBy
   map-at x y u v = getD-plane u (W * H) (mapOf f w h p) (b .response) y nan (pixel-in u v) response-room
 
-  work-at : (x y : ℕ) → x < W → y < H → pixel ((mapped f w h p b) .working) W x y ≡ workOf f w h p x y
+  pub work-at : (x y : ℕ) → x < W → y < H → pixel ((mapped f w h p b) .working) W x y ≡ workOf f w h p x y
   unfolding mappedBy
   work-at x y u v = getD-plane u (W * H) (workOf f w h p) (b .working) y 0 (pixel-in u v) working-room
 

@@ -1,8 +1,10 @@
--- Document 01's numbers P1 to P10, as a single table under one claim: what the definitions compute is what the document states. Assumes nothing.
-use mathlib.Core.Path.{_≡_, refl}
-use mathlib.Core.Bool.{Bool, true, false, cond}
-use mathlib.Core.List.{List, [], _∷_, _++_}
+-- Document 01's numbers P1 to P10 under one claim (P): what the definitions compute is what the document states, and P10 holds of every image.
+-- Assumes nothing.
+use mathlib.Core.Path.{_≡_, refl, sym}
+use mathlib.Core.Bool.{cond}
+use mathlib.Core.List.{List, [], _∷_}
 use Prim.Native.Nat.{ℕ, _+_, _-_, _*_}
+use lib.Dec.{ltb, lit≤}
 use lib.IntN.{pos}
 use lib.ListN.{length}
 use lib.Ieee.{Float, binary32, ofBits, toBits, ofInt, add, sub, mul, div, le, lt, round, units, odd, size, span, climb}
@@ -15,7 +17,7 @@ use Rattle.params.specs.declared.PeakFitMode.the-variants.{Parabolic}
 use Rattle.response.specs.Upsample.{upAt}
 use Rattle.response.specs.Response.{raySpread, square, responseAt}
 use Rattle.response.specs.Blur.{valueAt, windowSum, rowMean, columnMean, blurAt}
-use Rattle.response.specs.Worked.{frame}
+use Rattle.response.specs.Inner.{narrow-zero}
 use Rattle.detect.specs.Saddle.{disk}
 use Rattle.detect.specs.PeakFit.{fitOf}
 
@@ -29,7 +31,11 @@ f2 = ofBits binary32 0x4000_0000
 abbrev f3 : Float
 f3 = ofBits binary32 0x4040_0000
 
--- two images of document 01, and a map 3 by 1
+-- the frame: "7 by 7, pixels 200 where (x−3)(y−3) is positive, 0 where negative, 100 elsewhere"
+unfoldable pub frame : ℕ → ℕ → ℕ
+frame x y = cond (ltb 0 ((x - 3) * (y - 3) + (3 - x) * (3 - y))) 200 (cond (ltb 0 ((x - 3) * (3 - y) + (3 - x) * (y - 3))) 0 100)
+
+-- P1's image, and P9's map
 abbrev row01 : ℕ → ℕ → ℕ
 row01 = pixel (0 ∷ 1 ∷ []) 2
 
@@ -56,8 +62,6 @@ computed =
     ∷ toBits binary32 (fitOf Parabolic f1 f2 f2) ∷ toBits binary32 (fitOf Parabolic f2 f2 f1) ∷ toBits binary32 (fitOf Parabolic f1 f2 f3)
     -- P9 a 3 by 1 map 0, 3, 0 blurred by 1
     ∷ toBits binary32 (blurAt map030 3 1 1 0 0) ∷ toBits binary32 (blurAt map030 3 1 1 1 0) ∷ toBits binary32 (blurAt map030 3 1 1 2 0)
-    -- P10 a 2 by 2 map at ray 1
-    ∷ toBits binary32 (responseAt frame 2 2 1 0 0) ∷ toBits binary32 (responseAt frame 2 2 1 1 0) ∷ toBits binary32 (responseAt frame 2 2 1 0 1) ∷ toBits binary32 (responseAt frame 2 2 1 1 1)
     ∷ []
 
 -- what document 01 states
@@ -80,10 +84,14 @@ stated =
     ∷ 0x3f00_0000 ∷ 0xbf00_0000 ∷ 0
     -- P9: 1.5, 1, 1.5
     ∷ 0x3fc0_0000 ∷ 0x3f80_0000 ∷ 0x3fc0_0000
-    -- P10: all zero
-    ∷ 0 ∷ 0 ∷ 0 ∷ 0
     ∷ []
 
-pub P : computed ≡ stated
-unfolding upAt ray fold frame responseAt square raySpread blurAt columnMean rowMean windowSum disk keep each rect line range from fitOf ofBits toBits ofInt add sub mul div le lt round units odd size span climb
-P = refl
+-- P10 a 2 by 2 map at ray 1 is all zero, whatever the image
+abbrev pub P10 : Type 0
+P10 = (f : ℕ → ℕ → ℕ) (x y : ℕ) → responseAt f 2 2 1 x y ≡ f0
+
+pub P : (computed ≡ stated) × P10
+unfolding upAt ray fold frame responseAt square raySpread blurAt columnMean rowMean windowSum
+    disk keep each rect line range from fitOf
+    ofBits toBits ofInt add sub mul div le lt round units odd size span climb
+P = (refl, λ f x y. sym (narrow-zero f 2 2 1 x y (lit≤ tt)))

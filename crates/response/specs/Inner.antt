@@ -66,12 +66,16 @@ response-raised f b w h r x y = simp (ray-raised, max-raised, min-raised, less-r
 
 -- ---- only the pixels inside count
 
+pub spread-ext : (f g : ℕ → ℕ → ℕ) (w h r x y : ℕ) → Inside w h r x y → ((x y : ℕ) → x < w → y < h → f x y ≡ g x y) → raySpread f r x y ≡ raySpread g r x y
+unfolding raySpread
+spread-ext f g w h r x y m e =
+    let same : (d : Way) → ray d f r x y ≡ ray d g r x y = λ d. ray-ext d f g w h r x y m e in
+    rw (same along, same down, same fall, same rise)
+
 pub response-ext : (f g : ℕ → ℕ → ℕ) (w h r x y : ℕ) → ((x y : ℕ) → x < w → y < h → f x y ≡ g x y) → responseAt f w h r x y ≡ responseAt g w h r x y
-unfolding responseAt raySpread
+unfolding responseAt
 response-ext f g w h r x y e = at (within w h r x y) (inside-of w h r x y)
   where
     at : (b : Bool) → (T b → Inside w h r x y) → cond b (square (raySpread f r x y)) f0 ≡ cond b (square (raySpread g r x y)) f0
-    at true m =
-        let same : (d : Way) → ray d f r x y ≡ ray d g r x y = λ d. ray-ext d f g w h r x y (m tt) e in
-        rw (same along, same down, same fall, same rise)
+    at true m = ap square (spread-ext f g w h r x y (m tt) e)
     at false m = refl

@@ -9,8 +9,6 @@ pub mod Exact
 pub mod BlurLaws
 pub mod BlurRange
 pub mod MapFacts
-pub mod Worked
-pub mod BlurWorked
 pub mod Runs
 pub mod Columns
 pub mod Tables

@@ -1,0 +1,96 @@
+-- Document 01's "Run" numbers that the definitions decide, as one claim: what the table of answers says, two frames without a corner, and the
+-- frame's own corner. Assumes nothing.
+use mathlib.Core.Path.{_≡_, refl}
+use mathlib.Core.List.{List, [], _∷_}
+use Prim.Native.Nat.{ℕ, _*_}
+use lib.ListN.{length}
+use lib.Ieee.{Float, nan, isNan, binary32, ofBits, toBits, ofInt, add, sub, mul, div, le, lt, round, units, odd, size, span, climb}
+use Rattle.float.specs.Values.{f1}
+use Rattle.grid.specs.Fold.{fold}
+use Rattle.grid.specs.Plane.{plane}
+use Rattle.grid.specs.Each.{each, keep, any, count}
+use Rattle.grid.specs.Rect.{from, range, line, rect}
+use Rattle.grid.specs.Ways.{ray}
+use Rattle.scalar.specs.Root.{rootOf}
+use Rattle.params.specs.declared.PeakFitMode.the-variants.{Parabolic}
+use Rattle.params.specs.declared.RadonDetectorParams.{RadonDetectorParams}
+use Rattle.params.specs.Coordinates.{toInput}
+use Rattle.params.specs.Answers.{numberOf}
+use Rattle.params.specs.Refusals.{sizeRefusal, mapRefusal, listRefusal, roomRefusal, refusalOf}
+use Rattle.response.specs.Upsample.{workAt}
+use Rattle.response.specs.Response.{raySpread, square, responseAt}
+use Rattle.response.specs.Blur.{blurAt}
+use Rattle.response.specs.Map.{rawAt, mapAt, sideOf, mapOf}
+use Rattle.detect.specs.Window.{beaten, positives}
+use Rattle.detect.specs.Saddle.{saddleOf, saddleAt, disk}
+use Rattle.detect.specs.PeakFit.{fitOf}
+use Rattle.detect.specs.Corners.{corners, verdict, floorOf, peak, inputAt, numbers}
+use Rattle.radon.specs.Finder.{found}
+use Rattle.radon.proofs.TableP.{frame}
+
+-- the frame's settings, with radii and threshold to choose: "upsampling 1 .. parabolic .. least count 2"
+abbrev pub settings : ℕ → ℕ → ℕ → Float → RadonDetectorParams
+settings ray blur suppression threshold = record {
+  «ray_radius» = ray;
+  «image_upsample» = 1;
+  «response_blur_radius» = blur;
+  «peak_fit» = Parabolic;
+  «threshold_rel» = threshold;
+  «nms_radius» = suppression;
+  «min_cluster_size» = 2;
+}
+
+-- "ray 1 .. blur 0 .. suppression 1 .. threshold 3E8F5C29"
+abbrev pub fraction : Float
+fraction = ofBits binary32 0x3e8f_5c29
+
+abbrev pub framed : RadonDetectorParams
+framed = settings 1 0 1 fraction
+
+-- the answer's number for an image of w by h pixels over buffers with an entry for each working pixel
+abbrev pub answerTo : ℕ → ℕ → RadonDetectorParams → ℕ
+answerTo w h p = numberOf (refusalOf w h (w * h) p (sideOf w p * sideOf h p))
+
+-- the numbers of the corners in the frame's first w columns and h rows, by their patterns
+abbrev pub listed : ℕ → ℕ → RadonDetectorParams → List ℕ
+listed w h p = each (λ v. toBits binary32 v ∷ []) (each (numbers p (mapOf frame w h p)) (found frame w h p))
+
+-- what the definitions compute
+abbrev pub computed : List ℕ
+computed =
+    -- 4,096 by 2,048 and 4,096 by 2,049, at factor 1
+    answerTo 4096 2048 framed ∷ answerTo 4096 2049 framed
+    -- radii 7, 3, 32; then 8, 4, 33, one at a time
+    ∷ answerTo 7 7 (settings 7 3 32 fraction)
+    ∷ answerTo 7 7 (settings 8 3 32 fraction) ∷ answerTo 7 7 (settings 7 4 32 fraction) ∷ answerTo 7 7 (settings 7 3 33 fraction)
+    -- a threshold of NaN
+    ∷ answerTo 7 7 (settings 1 0 1 nan)
+    -- how many numbers the list has for the frame cut to 6 by 6, and at threshold 1.0
+    ∷ length (listed 6 6 framed)
+    ∷ length (listed 7 7 (settings 1 0 1 f1))
+    -- the frame's own list
+    ∷ listed 7 7 framed
+
+-- what document 01 states
+abbrev pub stated : List ℕ
+stated =
+    -- passes, answers 4
+    0 ∷ 4
+    -- pass; 5, 6, 7
+    ∷ 0
+    ∷ 5 ∷ 6 ∷ 7
+    -- 8
+    ∷ 8
+    -- finds none, finds none
+    ∷ 0
+    ∷ 0
+    -- "40400000 40400000 481C4000"
+    ∷ 0x4040_0000 ∷ 0x4040_0000 ∷ 0x481c_4000 ∷ []
+
+pub Run : computed ≡ stated
+unfolding refusalOf sizeRefusal mapRefusal listRefusal roomRefusal isNan
+    found corners verdict floorOf peak plane fold beaten positives any count keep each rect line range from
+    mapAt rawAt workAt blurAt responseAt square raySpread ray frame
+    saddleAt saddleOf disk rootOf numbers inputAt toInput fitOf
+    ofBits toBits ofInt add sub mul div le lt round units odd size span climb
+Run = refl
