@@ -6,8 +6,7 @@ use native.Mathlib.Nat.{mul-le-mul}
 use native.Mathlib.Omega.{arith}
 use lib.Dec.{T, lit<, lit≤, eqb}
 use lib.IntN.{pos}
-use lib.ListN.{getD}
-use lib.Ieee.{Float, nan, binary32, ofBits, ofInt, add, mul, le}
+use lib.Ieee.{Float, binary32, ofBits, ofInt, add, mul, le}
 use lib.Ieee.Exact.{HasValue}
 use lib.Ieee.Scale.{finite}
 use Rattle.float.specs.Values.{f0, f1}
@@ -19,6 +18,7 @@ use Rattle.params.specs.declared.RadonDetectorParams.{RadonDetectorParams}
 use Rattle.params.specs.Settings.{factorOf}
 use Rattle.params.specs.Coordinates.{toInput}
 use Rattle.detect.specs.Window.{at}
+use Rattle.detect.specs.Above.{entry}
 use Rattle.detect.specs.PeakFit.{half, minusHalf}
 use Rattle.detect.specs.Corners.{borderOf, corners, offsetX, offsetY, inputAt, numbers}
 use Rattle.detect.proofs.Offsets.{Central, fit-central}
@@ -48,15 +48,23 @@ moved n c offset most a b o =
     (ranged-whole c c _ (held-whole c (omega arith)) a (omega arith))
     (central-within offset o)
 
+-- times 1 / q
+part : (q side : ℕ) (y : Float) {x : Float} → 0 < q → q ≤ 2 → side ≤ 4096 → HasValue y false 1 q → Ranged 1 2 (q * side) x
+    → Ranged 1 4 side (mul binary32 x y)
+part q side y some two m v r =
+    mul-ranged 1 2 (q * side) 1 4 side 1 q (lit< tt) (lit< tt) some (exact 2 (lit≤ tt)) (held-whole side (omega arith))
+    (omega arith) (omega arith) y r v
+
 -- times 1 at factor 1, times 0.5 at factor 2
 scaled : (factor side : ℕ) {x : Float} → side ≤ 4096 → 1 ≤ factor → factor ≤ 2 → Ranged 1 2 (factor * side) x
     → Ranged 1 4 side (mul binary32 x (cond (eqb factor 1) f1 half))
 scaled zero side m a b r = absurd (omega arith)
-scaled (suc zero) side m a b r = mul-ranged 1 2 (1 * side) 1 4 side 1 1 (lit< tt) (lit< tt) (lit< tt) (exact 2 (lit≤ tt)) (held-whole side (omega arith)) (lit≤ tt) (omega arith) f1 r one-is
-scaled (suc (suc zero)) side m a b r = mul-ranged 1 2 (2 * side) 1 4 side 1 2 (lit< tt) (lit< tt) (lit< tt) (exact 2 (lit≤ tt)) (held-whole side (omega arith)) (lit≤ tt) (omega arith) half r half-is
+scaled (suc zero) side m a b r = part 1 side f1 (lit< tt) (lit≤ tt) m one-is r
+scaled (suc (suc zero)) side m a b r = part 2 side half (lit< tt) (lit≤ tt) m half-is r
 scaled (suc (suc (suc n))) side m a b r = absurd (omega arith)
 
-pub input-ranged : (up side c : ℕ) (offset : Float) → side ≤ 4096 → 1 ≤ c → c < factorOf up * side → Central offset → Ranged 1 4 side (inputAt up c offset)
+pub input-ranged : (up side c : ℕ) (offset : Float) → side ≤ 4096 → 1 ≤ c → c < factorOf up * side → Central offset
+    → Ranged 1 4 side (inputAt up c offset)
 unfolding inputAt toInput
 input-ranged up side c offset m a b o =
     let one : 1 ≤ factorOf up = omega arith in
@@ -90,7 +98,8 @@ to-most : (side : ℕ) {x : Float} → side ≤ 4096 → Ranged 1 4 side x → T
 unfolding ofBits
 to-most side m r = ranged-most _ (refl, refl) (ranged-wider 1 4 4096 (lit< tt) (lit≤ tt) m r)
 
-pub on-frame : (w h : ℕ) {x y strength : Float} → w ≤ 4096 → h ≤ 4096 → Ranged 1 4 w x → Ranged 1 4 h y → T (finite strength) → OnFrame w h x y strength
+on-frame : (w h : ℕ) {x y strength : Float} → w ≤ 4096 → h ≤ 4096 → Ranged 1 4 w x → Ranged 1 4 h y → T (finite strength)
+    → OnFrame w h x y strength
 on-frame w h u v a b t = record {
   x-finite = ranged-finite a;
   y-finite = ranged-finite b;
@@ -103,20 +112,27 @@ on-frame w h u v a b t = record {
   y-most = to-most h v b;
 }
 
-module _ (s : RadonDetectorParams) (f : ℕ → ℕ → Float) where
-  -- a candidate lies at least the border from every edge
-  abbrev pub Inner : ℕ → ℕ → Place → Type 0
-  Inner w h p = InRect (borderOf s) (w - borderOf s) (borderOf s) (h - borderOf s) p
+-- a candidate lies at least the border from every edge
+abbrev pub Inner : RadonDetectorParams → ℕ → ℕ → Place → Type 0
+Inner s w h p = InRect (borderOf s) (w - borderOf s) (borderOf s) (h - borderOf s) p
 
-  pub corners-inner : (w h : ℕ) (g : ℕ → ℕ → ℕ) → all (Inner w h) (corners s w h f g)
-  unfolding corners
-  corners-inner w h g = all-keep (Inner w h) _ _ (all-rect (borderOf s) (w - borderOf s) (borderOf s) (h - borderOf s))
+pub corners-inner : (s : RadonDetectorParams) (w h : ℕ) (f : ℕ → ℕ → Float) (g : ℕ → ℕ → ℕ) → all (Inner s w h) (corners s w h f g)
+unfolding corners
+corners-inner s w h f g = all-keep (Inner s w h) _ _ (all-rect (borderOf s) (w - borderOf s) (borderOf s) (h - borderOf s))
 
-  module _ (w h : ℕ) (wide : w ≤ 4096) (high : h ≤ 4096) (p : Place) (c : Inner (factorOf (s .«image_upsample») * w) (factorOf (s .«image_upsample») * h) p) where
-    pub numbers-on-frame : T (finite (at f p)) → OnFrame w h (getD (numbers s f p) 0 nan) (getD (numbers s f p) 1 nan) (getD (numbers s f p) 2 nan)
-    unfolding numbers
-    numbers-on-frame t =
-        on-frame w h wide high
-        (input-ranged (s .«image_upsample») w (p .x) (offsetX s f p) wide (omega arith) (omega arith) (fit-central _ _ _ _))
-        (input-ranged (s .«image_upsample») h (p .y) (offsetY s f p) high (omega arith) (omega arith) (fit-central _ _ _ _))
-        t
+-- and so a corner of the working image, W wide and H high, is on the frame
+module _ (s : RadonDetectorParams) (f : ℕ → ℕ → Float) (w h : ℕ) (wide : w ≤ 4096) (high : h ≤ 4096) (p : Place) where
+  abbrev W : ℕ
+  W = factorOf (s .«image_upsample») * w
+
+  abbrev H : ℕ
+  H = factorOf (s .«image_upsample») * h
+
+  pub numbers-on-frame : Inner s W H p → T (finite (at f p))
+      → OnFrame w h (entry (numbers s f p) 0) (entry (numbers s f p) 1) (entry (numbers s f p) 2)
+  unfolding numbers
+  numbers-on-frame c t =
+      on-frame w h wide high
+      (input-ranged (s .«image_upsample») w (p .x) (offsetX s f p) wide (omega arith) (omega arith) (fit-central _ _ _ _))
+      (input-ranged (s .«image_upsample») h (p .y) (offsetY s f p) high (omega arith) (omega arith) (fit-central _ _ _ _))
+      t

@@ -1,5 +1,5 @@
--- A sum with an offset of either sign: `Within u v y` says that y is finite and at most u / v in size. Rounding keeps the order, so what is at least p / q
--- and at most n, moved by such an offset, lies between two values of the format that the exact sum cannot pass. Assumes nothing.
+-- A sum with an offset of either sign: `Within u v y` says that y is finite and at most u / v in size. Rounding keeps the order, so what is
+-- at least p / q and at most n, moved by such an offset, lies between two values of the format that the exact sum cannot pass. Assumes nothing.
 use mathlib.Core.Path.{_≡_, sym, ap}
 use mathlib.Core.Bool.{Bool, true, false, true≢false}
 use Prim.Native.Nat.{ℕ, _+_, _-_, _*_, _^_, _≤_, _<_}
@@ -47,7 +47,9 @@ module _ (a c p q n r u v A D B F : ℕ) (C : 0 < c) (Q : 0 < q) (X : 0 < v) (le
     (h : p * D ≤ A * q) (k : A ≤ n * D) (g : B * v ≤ u * F) where
   -- a / c + B / F is at most A / D
   stays : a * (D * F) + B * D * c ≤ A * F * c
-  stays = le-of-mul-le-mul-right {k = q * v} (omega (arith, mul-le-mul-right (D * F) least, mul-le-mul-right (F * v * c) h, mul-le-mul-right (D * c * q) g)) (mul-pos Q X)
+  stays =
+      le-of-mul-le-mul-right {k = q * v}
+      (omega (arith, mul-le-mul-right (D * F) least, mul-le-mul-right (F * v * c) h, mul-le-mul-right (D * c * q) g)) (mul-pos Q X)
 
   smaller : B * D ≤ A * F
   smaller = le-of-mul-le-mul-right {k = c} (omega (arith, stays)) C

@@ -1,5 +1,5 @@
--- A list read back entry by entry: number j of entry i, where each entry has k numbers, stands at k · i + j; and what holds of every entry holds of entry i.
--- Assumes nothing.
+-- A list read back entry by entry: number j of entry i, where each entry has k numbers, stands at k · i + j; what holds of every entry
+-- holds of entry i. Assumes nothing.
 use mathlib.Core.Path.{_≡_, ap, _∙_}
 use Prim.Native.Nat.{ℕ, zero, suc, _+_, _*_, _<_}
 use native.Mathlib.Nat.{le-of-suc-le-suc, not-suc-le-zero, mul-zero, mul-suc, zero-add}
