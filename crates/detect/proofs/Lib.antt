@@ -15,3 +15,4 @@ pub mod Kept
 pub mod HigherSettings
 pub mod ShorterList
 pub mod Inside
+pub mod Places

@@ -3,6 +3,7 @@ pub mod Values
 pub mod Computed
 pub mod Sized
 pub mod Ranged
+pub mod Shifted
 pub mod Order
 pub mod Product
 pub mod Whole

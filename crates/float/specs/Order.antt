@@ -18,7 +18,7 @@ or-split false b t = inr t
 pub or-le : (a b : ℕ) (c : Bool) → T (ltb a b || (eqb a b && c)) → a ≤ b
 or-le a b c t = elim (or-split (ltb a b) (eqb a b && c) t) [ inl u ↦ le-of-lt (ltb→lt a b u) | inr u ↦ le-of-eq (eqb→eq a b (and-l (eqb a b) c u)) ]
 
-or-ge : (a b : ℕ) (c : Bool) → T (ltb b a || (eqb a b && c)) → b ≤ a
+pub or-ge : (a b : ℕ) (c : Bool) → T (ltb b a || (eqb a b && c)) → b ≤ a
 or-ge a b c t = elim (or-split (ltb b a) (eqb a b && c) t) [ inl u ↦ le-of-lt (ltb→lt b a u) | inr u ↦ le-of-eq (sym (eqb→eq a b (and-l (eqb a b) c u))) ]
 
 pub both-eq : (a b : ℕ) → T (eqb a b && eqb a 0) → (a ≡ b) × (a ≡ 0)

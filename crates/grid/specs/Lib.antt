@@ -11,3 +11,4 @@ pub mod Each
 pub mod Rect
 pub mod Over
 pub mod All
+pub mod Entries

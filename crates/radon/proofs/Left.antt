@@ -1,4 +1,4 @@
--- Steps from the definitions to the buffers that an accepted call leaves: which entry has which pixel or map value. Assumes nothing.
+-- What an accepted call leaves, by name, and the steps to it from the definitions: which entry has which pixel or map value. Assumes nothing.
 use mathlib.Core.Path.{_≡_, refl, ap, _∙_}
 use mathlib.Core.Logic.{_⊎_}
 use mathlib.Core.Bool.{Bool, true, false}
@@ -11,11 +11,12 @@ use mir.Syntax.{w8}
 use mir.Val.{Fits}
 use lib.Dec.{T}
 use lib.ListN.{length, getD, take}
-use lib.Ieee.{nan, le}
+use lib.Ieee.{Float, nan, le}
 use Rattle.float.specs.Values.{f0}
 use Rattle.grid.specs.Fill.{written-same}
 use Rattle.grid.specs.Plane.{pixel-in, column-in, row-number-in, plane-ext}
 use Rattle.grid.specs.Ways.{pixel}
+use Rattle.grid.specs.Over.{written}
 use Rattle.scalar.specs.Log.{high, lowest, highest}
 use Rattle.params.specs.declared.RadonDetectorParams.{RadonDetectorParams}
 use Rattle.params.specs.Settings.{factorOf, rayOf}
@@ -24,20 +25,39 @@ use Rattle.response.specs.Map.{Buffers as MapBuffers, sideOf, workOf, mapOf, ma
 use Rattle.response.specs.Runs.{Runs}
 use Rattle.response.specs.MapFacts.{raised-frame, map-range}
 use Rattle.detect.specs.Window.{value}
-use Rattle.radon.specs.Finder.{Buffers, answered, buffersOf}
+use Rattle.detect.specs.Corners.{numbers, stride}
+use Rattle.radon.specs.Finder.{Buffers, answered, found, buffersOf}
 use Rattle.radon.proofs.Cases.{runs-by, map-at, work-at}
+
+-- none of the refusals 2 to 9 applies: the answer is 0 or 1
+abbrev pub Accepted : List ℕ → ℕ → ℕ → RadonDetectorParams → Buffers → Type 0
+Accepted img w h p b = numberOf (answered img w h p b) ≡ 0
+
+-- each entry is a byte: what the prover knows of every lent `&[u8]`
+abbrev pub Bytes : List ℕ → Type 0
+Bytes img = (i : ℕ) → Fits w8 (getD img i 0)
+
+-- the response and the working image that a call left, by column and row, and its list
+abbrev pub mapLeft : List ℕ → ℕ → ℕ → RadonDetectorParams → Buffers → ℕ → ℕ → Float
+mapLeft img w h p b = value ((buffersOf img w h p b) .map .response) (sideOf w p)
+
+abbrev pub imageLeft : List ℕ → ℕ → ℕ → RadonDetectorParams → Buffers → ℕ → ℕ → ℕ
+imageLeft img w h p b = pixel ((buffersOf img w h p b) .map .working) (sideOf w p)
+
+abbrev pub listLeft : List ℕ → ℕ → ℕ → RadonDetectorParams → Buffers → List Float
+listLeft img w h p b = (buffersOf img w h p b) .list
 
 pub is-true : (t : Bool) → T t → t ≡ true
 is-true true u = refl
 is-true false u = absurd u
 
 -- a frame of bytes has no pixel above 255
-pub byte-most : (img : List ℕ) (w : ℕ) → ((i : ℕ) → Fits w8 (getD img i 0)) → (x y : ℕ) → pixel img w x y ≤ 255
+pub byte-most : (img : List ℕ) (w : ℕ) → Bytes img → (x y : ℕ) → pixel img w x y ≤ 255
 byte-most img w bytes x y = omega (arith, bytes (y * w + x))
 
 -- ---- one accepted call
 
-module _ (img : List ℕ) (w h : ℕ) (p : RadonDetectorParams) (b : Buffers) (accepted : numberOf (answered img w h p b) ≡ 0) where
+module _ (img : List ℕ) (w h : ℕ) (p : RadonDetectorParams) (b : Buffers) (accepted : Accepted img w h p b) where
   abbrev W : ℕ
   W = sideOf w p
 
@@ -47,14 +67,21 @@ module _ (img : List ℕ) (w h : ℕ) (p : RadonDetectorParams) (b : Buffers) (a
   pub runs : Runs (factorOf (p .«image_upsample»)) (rayOf (p .«ray_radius»)) (p .«response_blur_radius») w h (length img) (b .map)
   runs = runs-by w h p (length img) (b .map) accepted
 
-  pub map-is : (buffersOf img w h p b) .map ≡ mapped (pixel img w) w h p (b .map)
+  -- without the case of a refusal
+  pub left-is : _≡_ {A = Buffers} (buffersOf img w h p b) (record {
+    map = mapped (pixel img w) w h p (b .map);
+    list = written stride (numbers p (mapOf (pixel img w) w h p)) (found (pixel img w) w h p) (b .list);
+  })
   unfolding buffersOf
-  map-is = rw (eq-eqb (numberOf (answered img w h p b)) 0 accepted)
+  left-is = rw (eq-eqb (numberOf (answered img w h p b)) 0 accepted)
 
-  pub working-is : (x y : ℕ) → x < W → y < H → pixel ((buffersOf img w h p b) .map .working) W x y ≡ workOf (pixel img w) w h p x y
+  pub map-is : (buffersOf img w h p b) .map ≡ mapped (pixel img w) w h p (b .map)
+  map-is = ap (λ (o : Buffers). o .map) left-is
+
+  pub working-is : (x y : ℕ) → x < W → y < H → imageLeft img w h p b x y ≡ workOf (pixel img w) w h p x y
   working-is x y u v = rw map-is (work-at (pixel img w) w h p (b .map) (runs .working-room) (runs .response-room) x y u v)
 
-  pub response-is : (x y : ℕ) → x < W → y < H → value ((buffersOf img w h p b) .map .response) W x y ≡ mapOf (pixel img w) w h p x y
+  pub response-is : (x y : ℕ) → x < W → y < H → mapLeft img w h p b x y ≡ mapOf (pixel img w) w h p x y
   response-is x y u v = rw map-is (map-at (pixel img w) w h p (b .map) (runs .working-room) (runs .response-room) x y u v)
 
   -- by the entry's number
@@ -62,7 +89,7 @@ module _ (img : List ℕ) (w h : ℕ) (p : RadonDetectorParams) (b : Buffers) (a
   entry-is i l = rw (div-add-mod' i W) at (response-is (i % W) (i / W) (column-in W H l) (row-number-in W H l))
 
   -- 0, or from 2^-6 to 2^24
-  pub entry-range : ((i : ℕ) → Fits w8 (getD img i 0)) → (i : ℕ) → i < W * H
+  pub entry-range : Bytes img → (i : ℕ) → i < W * H
       → let v = mapOf (pixel img w) w h p (i % W) (i / W) in (v ≡ f0) ⊎ (T (le lowest v) × T (le v (highest high)))
   entry-range bytes i l =
       map-range (factorOf (p .«image_upsample»)) (rayOf (p .«ray_radius»)) (p .«response_blur_radius») (pixel img w) w h (byte-most img w bytes)
