@@ -135,10 +135,10 @@ pub fn line_at(o: Outcome, list: &[f32], i: usize) -> Line
         }
         return text::empty();
     }
+    let corners = stored(o.count, list.len());
     if i == 0 {
         return text::first(o.w, o.h, o.count);
     }
-    let corners = stored(o.count, list.len());
     if i <= corners {
         let at = (i - 1) * STRIDE;
         return text::corner(list[at], list[at + 1], list[at + 2]);
