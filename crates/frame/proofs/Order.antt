@@ -1,24 +1,44 @@
--- The tests of `readOf`, one after the other: what a test answers where it applies, and that the next is asked where it does not. Assumes nothing.
+-- The tests of `readOf` in their order: what one answers where it applies, and that the next is asked where it does not; and the two ways out of a
+-- field's reader. Assumes nothing.
 use mathlib.Core.Path.{_≡_, refl, sym, _∙_}
 use mathlib.Core.Bool.{Bool, true, false, not}
-use Prim.Native.Nat.{ℕ, _≤_}
+use mathlib.Core.List.{List}
+use Prim.Native.Nat.{ℕ, _≤_, _<_}
 use native.Mathlib.Decide.{decLe}
 use native.Mathlib.Omega.{arith}
 use borrow.Author.Tests.{le-leb, lt-leb, lt-ltb, le-ltb}
 use lib.Dec.{leb, ltb}
+use lib.ListN.{length}
 use Rattle.params.specs.declared.Answer.{Answer}
+use Rattle.params.specs.declared.Answer.the-variants.{FileTooLong, FileTooShort}
 use Rattle.frame.specs.declared.Reading.{Reading}
 use Rattle.frame.specs.declared.Reading.the-variants.{Refused}
 use Rattle.frame.specs.declared.fields.Field.{Field}
 use Rattle.frame.specs.declared.fields.Field.the-variants as number
-use Rattle.frame.specs.FrameFile.{pick}
+use Rattle.frame.specs.FrameFile.{pick, readOf}
 use Rattle.frame.specs.Fields.{held, refusalOf}
 
-pub applies : (t : Bool) (a b : Reading) → t ≡ true → a ≡ pick t a b
-applies t a b h = rw h
+module _ (limit : ℕ) (file : List ℕ) where
+  pub too-long : limit < length file → Refused FileTooLong ≡ readOf limit file
+  unfolding readOf
+  too-long h = rw (lt-ltb limit (length file) h)
+
+  pub too-short : length file ≤ limit → length file < 20 → Refused FileTooShort ≡ readOf limit file
+  unfolding readOf
+  too-short e h = rw (le-ltb limit (length file) e, lt-ltb (length file) 20 h)
 
 pub passed : (t : Bool) (a b : Reading) {r : Reading} → t ≡ false → r ≡ b → r ≡ pick t a b
 passed t a b h e = rw h e
+
+-- a field's reader refuses it, or hands out its value
+module _ (a : Answer) (t : Bool) (v : ℕ) where
+  pub refuses : t ≡ false → number.Refused a ≡ held a t v
+  unfolding held
+  refuses h = rw h
+
+  pub holds : {n : ℕ} → n ≡ v → t ≡ true → number.Value n ≡ held a t v
+  unfolding held
+  holds e h = rw (e, h)
 
 -- a field's outcome, from what its reader ensures of it
 module _ (a : Answer) (t : Bool) (v : ℕ) {f : Field} (is : f ≡ held a t v) where

@@ -1,20 +1,23 @@
 -- `frame::read` meets its contract: the tests in their order, each from what its field's reader ensures. Assumes nothing.
 use mathlib.Core.Path.{ap}
 use borrow.Author.Needs.{needs}
-use borrow.Author.Tests.{lt-ltb, le-ltb}
+use borrow.Author.Tests.{le-ltb}
+use denote.Ref.{now}
 use Rattle.frame.specs.declared.Reading.the-variants.{Frame}
 use Rattle.frame.specs.FrameFile.{readOf}
-use Rattle.frame.proofs.Order.{applies, passed, value-is, goes-on, leaves, above}
+use Rattle.frame.proofs.Order.{too-long, too-short, passed, value-is, goes-on, leaves, above}
 use Rattle.frame.proofs.read.Statement.{statement}
 use Rattle.frame.proofs.read.Tie as tie
 
 returns : tie.Need-returns
-unfolding readOf
-returns c = applies _ _ _ (lt-ltb _ _ (c .if1 .taken))
+returns c =
+    let s = c .before .before in
+    too-long (s .args .limit) (now (s .args .file)) (c .if1 .taken)
 
 returns-2 : tie.Need-returns-2
-unfolding readOf
-returns-2 c = passed _ _ _ (le-ltb _ _ (c .before .if1 .left)) (applies _ _ _ (lt-ltb _ _ (c .if2 .taken)))
+returns-2 c =
+    let s = c .before .before .before in
+    too-short (s .args .limit) (now (s .args .file)) (c .before .if1 .left) (c .if2 .taken)
 
 version-requires : tie.Need-version-requires
 version-requires c κs = search needs
