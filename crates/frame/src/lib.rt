@@ -55,7 +55,7 @@ pub fn read(file: &[u8], limit: usize) -> Reading
     Reading::Frame(header_of(file, m))
 }
 
-// The fields after the stated length; m is the mode's number. None of these is refused.
+// The fields after the stated length; m is the mode's number. No other of them can be refused.
 fn header_of(file: &[u8], m: u32) -> Header
     requires { ⌜ (20 ≤ length (now file)) × (m ≡ byteAt (now file) 12) ⌝ }
     ensures { λ r. ⌜ r ≡ headerOf (now (file .entry)) ⌝ }
@@ -79,7 +79,7 @@ fn header_of(file: &[u8], m: u32) -> Header
     }
 }
 
-// The pixels of a frame file, where they stand.
+// The pixels of a frame file, where they stand. A file too short for its fields has none: the empty part at its end.
 pub fn pixels(file: &[u8]) -> &[u8]
     ensures { λ r. ⌜ Pixels (file .entry) r ⌝ }
 {
