@@ -1,4 +1,4 @@
 -- What the proofs of the functions cite.
-pub mod Outcomes
+pub mod Order
 pub mod Digits
 pub mod Printing

@@ -39,68 +39,85 @@ three list at d h =
     let f : at + 2 ≡ suc (suc at) = omega arith in
     rw (e, f, drop-cons list at d (omega arith), drop-cons list (suc at) d (omega arith), drop-cons list (suc (suc at)) d (omega arith))
 
-module _ (stride : ℕ) (o : Outcome) (list : List Float) {n : ℕ} (number : n ≡ numberOf (o .answer)) where
-  module _ (more : 1 < n) where
-    refusal : printed stride o list ≡ refusedLine n ∷ []
-    unfolding printed
-    refusal = rw (← number, lt-ltb 1 n more)
+-- ---- a refusal's only line
 
-    pub refused-length : 1 ≡ length (printed stride o list)
-    refused-length = rw refusal
+-- n is the answer's number, and it is a refusal's
+pub record Refusal (o : Outcome) (n : ℕ) : Type 0 where
+  pub number : n ≡ numberOf (o .answer)
+  pub more : 1 < n
 
-    pub refused-at : {i : ℕ} → i ≡ 0 → refusedLine n ≡ getD (printed stride o list) i []
-    refused-at e = rw (refusal, e)
+module _ (stride : ℕ) (list : List Float) {o : Outcome} {n : ℕ} (r : Refusal o n) where
+  refusal : printed stride o list ≡ refusedLine n ∷ []
+  unfolding printed
+  refusal = rw (← r .number, lt-ltb 1 n (r .more))
 
-    pub refused-past : (i : ℕ) → (i ≡ 0 → ⊥) → [] ≡ getD (printed stride o list) i []
-    refused-past zero h = absurd (h refl)
-    refused-past (suc i) h = rw refusal
+  pub refused-length : 1 ≡ length (printed stride o list)
+  refused-length = rw refusal
 
-  module _ (few : n ≤ 1) {corners : ℕ} (all : corners ≡ stored stride (o .count) list) where
-    taken : printed stride o list ≡ firstLine (o .w) (o .h) (o .count) ∷ (cornerLines stride corners list ++ lastLines (eqb n 1))
-    unfolding printed
-    taken = rw (← number, le-ltb 1 n few, all)
+  pub refused-at : {i : ℕ} → i ≡ 0 → refusedLine n ≡ getD (printed stride o list) i []
+  refused-at e = rw (refusal, e)
 
-    pub first-at : {i : ℕ} → i ≡ 0 → firstLine (o .w) (o .h) (o .count) ≡ getD (printed stride o list) i []
-    first-at e = rw (taken, e)
+  pub refused-past : (i : ℕ) → (i ≡ 0 → ⊥) → [] ≡ getD (printed stride o list) i []
+  refused-past zero h = absurd (h refl)
+  refused-past (suc i) h = rw refusal
 
-    pub corner-line : (i : ℕ) → (i ≡ 0 → ⊥) → i ≤ corners → cornerLine (take stride (drop ((i - 1) * stride) list)) ≡ getD (printed stride o list) i []
-    corner-line zero h m = absurd (h refl)
-    corner-line (suc k) h m =
-        let e : suc k - 1 ≡ k = omega arith in
-        rw (taken, e, List·getD-append (cornerLines stride corners list) (lastLines (eqb n 1)) [] k (omega (arith, length-corners stride corners list)))
-        (sym (corner-at stride corners list k m))
+-- ---- the lines of a list
 
-    behind : (i : ℕ) → corners < i → getD (printed stride o list) i [] ≡ getD (lastLines (eqb n 1)) (i - corners - 1) []
-    behind zero h = absurd (not-suc-le-zero h)
-    behind (suc k) h =
-        let e : k ≡ length (cornerLines stride corners list) + (suc k - corners - 1) = omega (arith, length-corners stride corners list) in
-        rw taken (ap (λ (j : ℕ). getD (cornerLines stride corners list ++ lastLines (eqb n 1)) j []) e ∙ getD-append-add (cornerLines stride corners list) (lastLines (eqb n 1)) (suc k - corners - 1) [])
+-- n is the answer's number, and no refusal's; so many corners are stored
+pub record Listing (stride : ℕ) (o : Outcome) (list : List Float) (n corners : ℕ) : Type 0 where
+  pub number : n ≡ numberOf (o .answer)
+  pub few : n ≤ 1
+  pub all : corners ≡ stored stride (o .count) list
 
-    pub full-at : (i : ℕ) → n ≡ 1 → corners < i → i ≤ corners + 1 → fullLine ≡ getD (printed stride o list) i []
-    full-at i e a b =
-        let z : i - corners - 1 ≡ 0 = omega arith in
-        rw (behind i a, eq-eqb n 1 e, z)
+module _ {stride : ℕ} {o : Outcome} {list : List Float} {n corners : ℕ} (l : Listing stride o list n corners) where
+  listed : printed stride o list ≡ firstLine (o .w) (o .h) (o .count) ∷ (cornerLines stride corners list ++ lastLines (eqb n 1))
+  unfolding printed
+  listed = rw (← l .number, le-ltb 1 n (l .few), l .all)
 
-    pub none-at : (i : ℕ) → (n ≡ 1 → ⊥) → corners < i → [] ≡ getD (printed stride o list) i []
-    none-at i e a = rw (behind i a, ne-eqb n 1 e)
+  pub first-at : {i : ℕ} → i ≡ 0 → firstLine (o .w) (o .h) (o .count) ≡ getD (printed stride o list) i []
+  first-at e = rw (listed, e)
 
-    pub past-at : (i : ℕ) → corners + 1 < i → [] ≡ getD (printed stride o list) i []
-    past-at i a =
-        let z : 1 ≤ i - corners - 1 = omega arith in
-        sym (behind i (omega arith) ∙ List·getD-eq-default (lastLines (eqb n 1)) [] (omega (arith, most (eqb n 1))))
-      where
-        most : (b : Bool) → length (lastLines b) ≤ 1
-        most true = omega arith
-        most false = omega arith
+  pub corner-line : (i : ℕ) → (i ≡ 0 → ⊥) → i ≤ corners → cornerLine (take stride (drop ((i - 1) * stride) list)) ≡ getD (printed stride o list) i []
+  corner-line zero h m = absurd (h refl)
+  corner-line (suc k) h m =
+      let e : suc k - 1 ≡ k = omega arith in
+      rw (listed, e, List·getD-append (cornerLines stride corners list) (lastLines (eqb n 1)) [] k (omega (arith, length-corners stride corners list)))
+      (sym (corner-at stride corners list k m))
 
-    long : length (printed stride o list) ≡ 1 + (corners + length (lastLines (eqb n 1)))
-    long = rw (taken, length-append (cornerLines stride corners list) (lastLines (eqb n 1)), length-corners stride corners list) (omega arith)
+  behind : (i : ℕ) → corners < i → getD (printed stride o list) i [] ≡ getD (lastLines (eqb n 1)) (i - corners - 1) []
+  behind zero h = absurd (not-suc-le-zero h)
+  behind (suc k) h =
+      let before = cornerLines stride corners list in
+      let e : k ≡ length before + (suc k - corners - 1) = omega (arith, length-corners stride corners list) in
+      rw listed
+      (ap (λ (j : ℕ). getD (before ++ lastLines (eqb n 1)) j []) e
+      ∙ getD-append-add before (lastLines (eqb n 1)) (suc k - corners - 1) [])
 
-    pub full-length : n ≡ 1 → corners + 2 ≡ length (printed stride o list)
-    full-length e = omega (arith, rw (eq-eqb n 1 e) at long)
+  pub full-at : (i : ℕ) → n ≡ 1 → corners < i → i ≤ corners + 1 → fullLine ≡ getD (printed stride o list) i []
+  full-at i e a b =
+      let z : i - corners - 1 ≡ 0 = omega arith in
+      rw (behind i a, eq-eqb n 1 e, z)
 
-    pub whole-length : (n ≡ 1 → ⊥) → corners + 1 ≡ length (printed stride o list)
-    whole-length e = omega (arith, rw (ne-eqb n 1 e) at long)
+  pub none-at : (i : ℕ) → (n ≡ 1 → ⊥) → corners < i → [] ≡ getD (printed stride o list) i []
+  none-at i e a = rw (behind i a, ne-eqb n 1 e)
+
+  pub past-at : (i : ℕ) → corners + 1 < i → [] ≡ getD (printed stride o list) i []
+  past-at i a =
+      let z : 1 ≤ i - corners - 1 = omega arith in
+      sym (behind i (omega arith) ∙ List·getD-eq-default (lastLines (eqb n 1)) [] (omega (arith, most (eqb n 1))))
+    where
+      most : (b : Bool) → length (lastLines b) ≤ 1
+      most true = omega arith
+      most false = omega arith
+
+  long : length (printed stride o list) ≡ 1 + (corners + length (lastLines (eqb n 1)))
+  long = rw (listed, length-append (cornerLines stride corners list) (lastLines (eqb n 1)), length-corners stride corners list) (omega arith)
+
+  pub full-length : n ≡ 1 → corners + 2 ≡ length (printed stride o list)
+  full-length e = omega (arith, rw (eq-eqb n 1 e) at long)
+
+  pub whole-length : (n ≡ 1 → ⊥) → corners + 1 ≡ length (printed stride o list)
+  whole-length e = omega (arith, rw (ne-eqb n 1 e) at long)
 
 -- ---- a line that is shown
 

@@ -1,10 +1,12 @@
 -- Document 01, "Frame file and printed list": which frame files are taken, what their bytes mean, and which answer all others get.
+use mathlib.Core.Path.{_≡_}
 use mathlib.Core.Bool.{Bool, true, false, not}
 use mathlib.Core.List.{List}
-use Prim.Native.Nat.{ℕ, _+_, _-_, _*_}
+use Prim.Native.Nat.{ℕ, _+_, _-_, _*_, min}
 use lib.Dec.{ltb, eqb}
 use lib.Ieee.{binary32, ofBits}
-use lib.ListN.{length, getD}
+use lib.ListN.{length, getD, drop}
+use denote.Ref.{RefT, now, ptr}
 use Rattle.params.specs.declared.Answer.the-variants.{FileTooLong, FileTooShort, Version, StatedLength, Mode}
 use Rattle.params.specs.declared.PeakFitMode.{PeakFitMode}
 use Rattle.params.specs.declared.PeakFitMode.the-variants.{Parabolic, Gaussian}
@@ -60,3 +62,9 @@ readOf limit file =
     (pick (not (eqb (wordAt file 1) (length file - 5))) (Refused StatedLength)
     (pick (ltb 1 (byteAt file 12)) (Refused Mode)
     (Frame (headerOf file))))))
+
+-- "The pixel part of a file is read where it stands": r is what follows the 20 bytes of the fields, and it is that part of the file itself, from byte
+-- 20 on. A shorter file has no pixels: r is the empty part at its end.
+pub record Pixels (file r : RefT (List ℕ)) : Type 0 where
+  pub values : now r ≡ drop 20 (now file)
+  pub itself : ptr r ≡ (ptr file .0, min 20 (length (now file)) + ptr file .1)

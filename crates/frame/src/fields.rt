@@ -1,4 +1,5 @@
-// The fields of a frame file, each with an outcome of its own: its value, or that it is missing or not to be taken.
+// The fields of a frame file. A field that can be refused answers its value or which refusal it is; the others are numbers.
+use params::Answer;
 use params::PeakFitMode;
 ghost use mathlib.Core.Path.{_≡_};
 ghost use Prim.Native.Nat.{_+_, _-_, _≤_, _<_};
@@ -6,12 +7,24 @@ ghost use lib.Dec.{leb, eqb};
 ghost use lib.Ieee.{binary32, ofBits};
 ghost use lib.ListN.{length};
 ghost use Rattle.frame.specs.FrameFile.{byteAt, halfAt, wordAt, fitOf};
-ghost use Rattle.frame.specs.Fields.{held};
+ghost use Rattle.frame.specs.Fields.{held, refusalOf};
 
 // A field's outcome.
 pub enum Field {
     Value(u32),
-    Refused,
+    Refused(Answer),
+}
+
+impl Field {
+    // The answer by which a field is refused. One that has a value is not refused: that is answer 0.
+    pub fn refusal(self) -> Answer
+        ensures { λ r. ⌜ r ≡ refusalOf self ⌝ }
+    {
+        match self {
+            Field::Value(_) => Answer::Complete,
+            Field::Refused(answer) => answer,
+        }
+    }
 }
 
 fn wide(b: u8) -> u32
@@ -21,52 +34,41 @@ fn wide(b: u8) -> u32
 }
 
 // One byte.
-pub fn byte(file: &[u8], at: usize) -> Field
-    requires { ⌜ at < 20 ⌝ }
-    ensures { λ r. ⌜ r ≡ held (leb (at + 1) (length (now (file .entry)))) (byteAt (now (file .entry)) at) ⌝ }
+pub fn byte(file: &[u8], at: usize) -> u32
+    requires { ⌜ at < length (now file) ⌝ }
+    ensures { λ r. ⌜ (r ≡ byteAt (now (file .entry)) at) × (r < 256) ⌝ }
 {
-    if file.len() < at + 1 {
-        return Field::Refused;
-    }
-    Field::Value(wide(file[at]))
+    wide(file[at])
 }
 
 // Two bytes, the higher first.
-pub fn half(file: &[u8], at: usize) -> Field
-    requires { ⌜ at < 20 ⌝ }
-    ensures { λ r. ⌜ r ≡ held (leb (at + 2) (length (now (file .entry)))) (halfAt (now (file .entry)) at) ⌝ }
+pub fn half(file: &[u8], at: usize) -> u32
+    requires { ⌜ at + 2 ≤ length (now file) ⌝ }
+    ensures { λ r. ⌜ (r ≡ halfAt (now (file .entry)) at) × (r < 65536) ⌝ }
 {
-    if file.len() < at + 2 {
-        return Field::Refused;
-    }
-    let high = wide(file[at]);
-    let low = wide(file[at + 1]);
-    Field::Value(high * 256 + low)
+    let high = byte(file, at);
+    let low = byte(file, at + 1);
+    high * 256 + low
 }
 
 // Four bytes, the highest first.
-pub fn word(file: &[u8], at: usize) -> Field
-    requires { ⌜ at < 20 ⌝ }
-    ensures { λ r. ⌜ r ≡ held (leb (at + 4) (length (now (file .entry)))) (wordAt (now (file .entry)) at) ⌝ }
+pub fn word(file: &[u8], at: usize) -> u32
+    requires { ⌜ at + 4 ≤ length (now file) ⌝ }
+    ensures { λ r. ⌜ r ≡ wordAt (now (file .entry)) at ⌝ }
 {
-    if file.len() < at + 4 {
-        return Field::Refused;
-    }
-    let high = wide(file[at]) * 256 + wide(file[at + 1]);
-    let low = wide(file[at + 2]) * 256 + wide(file[at + 3]);
-    Field::Value(high * 65536 + low)
+    let high = half(file, at);
+    let low = half(file, at + 2);
+    high * 65536 + low
 }
 
 // Byte 0, which must be 1.
 pub fn version(file: &[u8]) -> Field
     requires { ⌜ 20 ≤ length (now file) ⌝ }
-    ensures { λ r. ⌜ r ≡ held (eqb (byteAt (now (file .entry)) 0) 1) (byteAt (now (file .entry)) 0) ⌝ }
+    ensures { λ r. ⌜ r ≡ held Answer.Version (eqb (byteAt (now (file .entry)) 0) 1) (byteAt (now (file .entry)) 0) ⌝ }
 {
-    let Field::Value(v) = byte(file, 0) else {
-        return Field::Refused;
-    };
+    let v = byte(file, 0);
     if v != 1 {
-        return Field::Refused;
+        return Field::Refused(Answer::Version);
     }
     Field::Value(v)
 }
@@ -74,13 +76,11 @@ pub fn version(file: &[u8]) -> Field
 // Bytes 1 to 4, which must be the number of bytes that follow them.
 pub fn stated_length(file: &[u8]) -> Field
     requires { ⌜ 20 ≤ length (now file) ⌝ }
-    ensures { λ r. ⌜ r ≡ held (eqb (wordAt (now (file .entry)) 1) (length (now (file .entry)) - 5)) (wordAt (now (file .entry)) 1) ⌝ }
+    ensures { λ r. ⌜ r ≡ held Answer.StatedLength (eqb (wordAt (now (file .entry)) 1) (length (now (file .entry)) - 5)) (wordAt (now (file .entry)) 1) ⌝ }
 {
-    let Field::Value(stated) = word(file, 1) else {
-        return Field::Refused;
-    };
+    let stated = word(file, 1);
     if stated as usize != file.len() - 5 {
-        return Field::Refused;
+        return Field::Refused(Answer::StatedLength);
     }
     Field::Value(stated)
 }
@@ -88,13 +88,11 @@ pub fn stated_length(file: &[u8]) -> Field
 // Byte 12, which must be 0 or 1.
 pub fn mode(file: &[u8]) -> Field
     requires { ⌜ 20 ≤ length (now file) ⌝ }
-    ensures { λ r. ⌜ r ≡ held (leb (byteAt (now (file .entry)) 12) 1) (byteAt (now (file .entry)) 12) ⌝ }
+    ensures { λ r. ⌜ r ≡ held Answer.Mode (leb (byteAt (now (file .entry)) 12) 1) (byteAt (now (file .entry)) 12) ⌝ }
 {
-    let Field::Value(m) = byte(file, 12) else {
-        return Field::Refused;
-    };
+    let m = byte(file, 12);
     if m > 1 {
-        return Field::Refused;
+        return Field::Refused(Answer::Mode);
     }
     Field::Value(m)
 }

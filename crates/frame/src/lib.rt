@@ -6,9 +6,8 @@ use params::RadonDetectorParams;
 ghost use mathlib.Core.Path.{_≡_};
 ghost use mathlib.Core.List.{[]};
 ghost use Prim.Native.Nat.{_/_, _≤_, min};
-ghost use lib.Dec.{ltb};
-ghost use lib.ListN.{length, getD, drop};
-ghost use Rattle.frame.specs.FrameFile.{pick, byteAt, headerOf, readOf};
+ghost use lib.ListN.{length, getD};
+ghost use Rattle.frame.specs.FrameFile.{byteAt, headerOf, readOf, Pixels};
 ghost use Rattle.frame.specs.Printed.{printed};
 ghost use Rattle.frame.specs.Lines.{Shows};
 
@@ -41,66 +40,48 @@ pub fn read(file: &[u8], limit: usize) -> Reading
     if file.len() < HEADER {
         return Reading::Refused(Answer::FileTooShort);
     }
-    let Field::Value(_) = fields::version(file) else {
-        return Reading::Refused(Answer::Version);
+    let version = fields::version(file);
+    let Field::Value(_) = version else {
+        return Reading::Refused(version.refusal());
     };
-    let Field::Value(_) = fields::stated_length(file) else {
-        return Reading::Refused(Answer::StatedLength);
+    let stated = fields::stated_length(file);
+    let Field::Value(_) = stated else {
+        return Reading::Refused(stated.refusal());
     };
-    read_header(file)
+    let mode = fields::mode(file);
+    let Field::Value(m) = mode else {
+        return Reading::Refused(mode.refusal());
+    };
+    Reading::Frame(header_of(file, m))
 }
 
-// The fields after the stated length, and answer 14. No field is missing from a file of that many bytes.
-fn read_header(file: &[u8]) -> Reading
-    requires { ⌜ 20 ≤ length (now file) ⌝ }
-    ensures { λ r. ⌜ r ≡ pick (ltb 1 (byteAt (now (file .entry)) 12)) (Reading.Refused Answer.Mode) (Reading.Frame (headerOf (now (file .entry)))) ⌝ }
+// The fields after the stated length; m is the mode's number. No other of them can be refused.
+fn header_of(file: &[u8], m: u32) -> Header
+    requires { ⌜ (20 ≤ length (now file)) × (m ≡ byteAt (now file) 12) ⌝ }
+    ensures { λ r. ⌜ r ≡ headerOf (now (file .entry)) ⌝ }
 {
-    let Field::Value(width) = fields::half(file, 5) else {
-        return Reading::Refused(Answer::FileTooShort);
-    };
-    let Field::Value(height) = fields::half(file, 7) else {
-        return Reading::Refused(Answer::FileTooShort);
-    };
-    let Field::Value(ray_radius) = fields::byte(file, 9) else {
-        return Reading::Refused(Answer::FileTooShort);
-    };
-    let Field::Value(image_upsample) = fields::byte(file, 10) else {
-        return Reading::Refused(Answer::FileTooShort);
-    };
-    let Field::Value(response_blur_radius) = fields::byte(file, 11) else {
-        return Reading::Refused(Answer::FileTooShort);
-    };
-    let Field::Value(mode) = fields::mode(file) else {
-        return Reading::Refused(Answer::Mode);
-    };
-    let Field::Value(nms_radius) = fields::byte(file, 13) else {
-        return Reading::Refused(Answer::FileTooShort);
-    };
-    let Field::Value(min_cluster_size) = fields::half(file, 14) else {
-        return Reading::Refused(Answer::FileTooShort);
-    };
-    let Field::Value(bits) = fields::word(file, 16) else {
-        return Reading::Refused(Answer::FileTooShort);
-    };
+    let width = fields::half(file, 5) as usize;
+    let height = fields::half(file, 7) as usize;
+    let bits = fields::word(file, 16);
     let params = RadonDetectorParams {
-        ray_radius,
-        image_upsample,
-        response_blur_radius,
-        peak_fit: fields::fit(mode),
+        ray_radius: fields::byte(file, 9),
+        image_upsample: fields::byte(file, 10),
+        response_blur_radius: fields::byte(file, 11),
+        peak_fit: fields::fit(m),
         threshold_rel: fields::float(bits),
-        nms_radius,
-        min_cluster_size,
+        nms_radius: fields::byte(file, 13),
+        min_cluster_size: fields::half(file, 14),
     };
-    Reading::Frame(Header {
-        width: width as usize,
-        height: height as usize,
+    Header {
+        width,
+        height,
         params,
-    })
+    }
 }
 
-// The pixels of a frame file, where they stand.
+// The pixels of a frame file, where they stand. A file too short for its fields has none: the empty part at its end.
 pub fn pixels(file: &[u8]) -> &[u8]
-    ensures { λ r. ⌜ now r ≡ drop 20 (now (file .entry)) ⌝ }
+    ensures { λ r. ⌜ Pixels (file .entry) r ⌝ }
 {
     let n = file.len();
     if n < HEADER {
@@ -154,10 +135,10 @@ pub fn line_at(o: Outcome, list: &[f32], i: usize) -> Line
         }
         return text::empty();
     }
+    let corners = stored(o.count, list.len());
     if i == 0 {
         return text::first(o.w, o.h, o.count);
     }
-    let corners = stored(o.count, list.len());
     if i <= corners {
         let at = (i - 1) * STRIDE;
         return text::corner(list[at], list[at + 1], list[at + 2]);

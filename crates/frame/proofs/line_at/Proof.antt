@@ -1,40 +1,141 @@
--- `frame::line_at` meets its contract. Assumes nothing.
-use mathlib.Core.Path.{refl, sym, ap, _∙_}
+-- `frame::line_at` meets its contract: each way out is a line of the printed ones. Assumes nothing.
+use mathlib.Core.Path.{sym, ap, _∙_}
 use native.Mathlib.Omega.{arith}
-use Rattle.frame.specs.Printed.{cornerLine}
-use Rattle.frame.proofs.Printing.{refused-at, refused-past, first-at, corner-line, three, full-at, none-at, past-at, shows-as, shows-nothing}
 use borrow.Author.Needs.{needs}
+use Rattle.frame.specs.Printed.{cornerLine}
+use Rattle.frame.proofs.Printing.{Refusal, refused-at, refused-past, Listing, first-at, corner-line, three, full-at, none-at, past-at, shows-as, shows-nothing}
 use Rattle.frame.proofs.line_at.Statement.{statement}
 use Rattle.frame.proofs.line_at.Tie as tie
+
+refusal : (c : tie.Then1) → Refusal (c .before .before .before .args .o) (c .before .number .result)
+refusal c = record { number = c .before .number .ensures; more = c .if1 .taken }
+
+-- from where the corners are counted back to the start
+abbrev start : tie.After-stored → tie.Start
+start c = c .before .before .before .before
+
+listing : (c : tie.After-stored) → Listing 3 (start c .args .o) (start c .args .list .now) (c .before .before .number .result) (c .stored .result)
+listing c = record { number = c .before .before .number .ensures; few = c .before .if1 .left; all = c .stored .ensures }
+
+number-requires : tie.Need-number-requires
+number-requires c κs = search needs
+
+refused-requires : tie.Need-refused-requires
+refused-requires c κs = search needs
+
+returns : tie.Need-returns
+returns c = shows-as (c .refused .ensures) (refused-at _ _ (refusal (c .before .before)) (c .before .if2 .taken))
+
+empty-requires : tie.Need-empty-requires
+empty-requires c κs = search needs
+
+returns-2 : tie.Need-returns-2
+returns-2 c = shows-as (shows-nothing (c .empty .ensures)) (refused-past _ _ (refusal (c .before .before)) _ (c .before .if2 .left))
+
+stored-requires : tie.Need-stored-requires
+stored-requires c κs = search needs
+
+first-requires : tie.Need-first-requires
+first-requires c κs = search needs
+
+returns-3 : tie.Need-returns-3
+returns-3 c = shows-as (c .first .ensures) (first-at (listing (c .before .before)) (c .before .if3 .taken))
+
+sub-at : tie.Need-sub-at
+sub-at c = search needs
+
+mul-at : tie.Need-mul-at
+mul-at c = search needs
+
+mul-corner : tie.Need-mul-corner
+mul-corner c = search needs
+
+shared-slice-read-corner : tie.Need-shared-slice-read-corner
+shared-slice-read-corner c = search needs
+
+add-corner : tie.Need-add-corner
+add-corner c = search needs
+
+mul-corner-2 : tie.Need-mul-corner-2
+mul-corner-2 c = search needs
+
+shared-slice-read-corner-2 : tie.Need-shared-slice-read-corner-2
+shared-slice-read-corner-2 c = search needs
+
+add-corner-2 : tie.Need-add-corner-2
+add-corner-2 c = search needs
+
+mul-corner-3 : tie.Need-mul-corner-3
+mul-corner-3 c = search needs
+
+shared-slice-read-corner-3 : tie.Need-shared-slice-read-corner-3
+shared-slice-read-corner-3 c = search needs
+
+corner-requires : tie.Need-corner-requires
+corner-requires c κs = search needs
+
+returns-4 : tie.Need-returns-4
+returns-4 c =
+    let at = c .before .before .before .before in
+    let s = start (at .before .before) in
+    shows-as (c .corner .ensures)
+    (ap cornerLine (sym (three (s .args .list .now) _ _ (omega arith)))
+    ∙ corner-line (listing (at .before .before)) (s .args .i) (at .before .if3 .left) (at .if4 .taken))
+
+add-if5 : tie.Need-add-if5
+add-if5 c = search needs
+
+empty-requires-2 : tie.Need-empty-requires-2
+empty-requires-2 c κs = search needs
+
+returns-5 : tie.Need-returns-5
+returns-5 c = shows-as (shows-nothing (c .empty2 .ensures)) (past-at (listing (c .before .before .before .before)) _ (c .before .if5 .taken))
+
+full-requires : tie.Need-full-requires
+full-requires c κs = search needs
+
+returns-6 : tie.Need-returns-6
+returns-6 c =
+    let past = c .before .before .before in
+    shows-as (c .full .ensures)
+    (full-at (listing (past .before .before)) _ (c .before .if6 .taken) (past .if4 .left) (c .before .before .if5 .left))
+
+empty-requires-3 : tie.Need-empty-requires-3
+empty-requires-3 c κs = search needs
+
+returns-7 : tie.Need-returns-7
+returns-7 c =
+    let past = c .before .before .before in
+    shows-as (shows-nothing (c .empty3 .ensures)) (none-at (listing (past .before .before)) _ (c .before .if6 .left) (past .if4 .left))
 
 pub line-at-spec : {M : Type 1} → statement M
 line-at-spec =
     tie.close
     (tie.spec
-    (λ c κs. search needs)
-    (λ c κs. search needs)
-    (λ c. shows-as (c .refused .ensures) (refused-at 3 (c .before .before .before .before .before .args .o) (c .before .before .before .before .before .args .list .now) (c .before .before .before .number .ensures) (c .before .before .if1 .taken) (c .before .if2 .taken)))
-    (λ c κs. search needs)
-    (λ c. shows-as (shows-nothing (c .empty .ensures)) (refused-past 3 (c .before .before .before .before .before .args .o) (c .before .before .before .before .before .args .list .now) (c .before .before .before .number .ensures) (c .before .before .if1 .taken) _ (c .before .if2 .left)))
-    (λ c κs. search needs)
-    (λ c. shows-as (c .first .ensures) (first-at 3 (c .before .before .before .before .before .args .o) (c .before .before .before .before .before .args .list .now) (c .before .before .before .number .ensures) (c .before .before .if1 .left) refl (c .before .if3 .taken)))
-    (λ c κs. search needs)
-    (λ c. search needs)
-    (λ c. search needs)
-    (λ c. search needs)
-    (λ c. search needs)
-    (λ c. search needs)
-    (λ c. search needs)
-    (λ c. search needs)
-    (λ c. search needs)
-    (λ c. search needs)
-    (λ c. search needs)
-    (λ c κs. search needs)
-    (λ c. shows-as (c .corner .ensures) (ap cornerLine (sym (three (c .before .before .before .before .before .before .before .before .before .before .args .list .now) _ _ (omega arith))) ∙ corner-line 3 (c .before .before .before .before .before .before .before .before .before .before .args .o) (c .before .before .before .before .before .before .before .before .before .before .args .list .now) (c .before .before .before .before .before .before .before .before .number .ensures) (c .before .before .before .before .before .before .before .if1 .left) (c .before .before .before .before .before .stored .ensures) (c .before .before .before .before .before .before .before .before .before .before .args .i) (c .before .before .before .before .before .before .if3 .left) (c .before .before .before .before .if4 .taken)))
-    (λ c. search needs)
-    (λ c κs. search needs)
-    (λ c. shows-as (shows-nothing (c .empty2 .ensures)) (past-at 3 (c .before .before .before .before .before .before .before .before .args .o) (c .before .before .before .before .before .before .before .before .args .list .now) (c .before .before .before .before .before .before .number .ensures) (c .before .before .before .before .before .if1 .left) (c .before .before .before .stored .ensures) (c .before .before .before .before .before .before .before .before .args .i) (c .before .if5 .taken)))
-    (λ c κs. search needs)
-    (λ c. shows-as (c .full .ensures) (full-at 3 (c .before .before .before .before .before .before .before .before .before .args .o) (c .before .before .before .before .before .before .before .before .before .args .list .now) (c .before .before .before .before .before .before .before .number .ensures) (c .before .before .before .before .before .before .if1 .left) (c .before .before .before .before .stored .ensures) (c .before .before .before .before .before .before .before .before .before .args .i) (c .before .if6 .taken) (c .before .before .before .if4 .left) (c .before .before .if5 .left)))
-    (λ c κs. search needs)
-    (λ c. shows-as (shows-nothing (c .empty3 .ensures)) (none-at 3 (c .before .before .before .before .before .before .before .before .before .args .o) (c .before .before .before .before .before .before .before .before .before .args .list .now) (c .before .before .before .before .before .before .before .number .ensures) (c .before .before .before .before .before .before .if1 .left) (c .before .before .before .before .stored .ensures) (c .before .before .before .before .before .before .before .before .before .args .i) (c .before .if6 .left) (c .before .before .before .if4 .left))))
+    number-requires
+    refused-requires
+    returns
+    empty-requires
+    returns-2
+    stored-requires
+    first-requires
+    returns-3
+    sub-at
+    mul-at
+    mul-corner
+    shared-slice-read-corner
+    add-corner
+    mul-corner-2
+    shared-slice-read-corner-2
+    add-corner-2
+    mul-corner-3
+    shared-slice-read-corner-3
+    corner-requires
+    returns-4
+    add-if5
+    empty-requires-2
+    returns-5
+    full-requires
+    returns-6
+    empty-requires-3
+    returns-7)

@@ -39,7 +39,7 @@ returns-2 c =
     let f = found c in
     let r = found c .before .before .before .before .before .before .before .before .before .before .before .before .before in
     let s = start r in
-    when-read (now (s .args .file)) (lent s) (r .read .ensures) (now (found c .before .before .before .before .before .before .before .before .before .pixels .result)) _ (found c .before .before .before .before .before .before .before .before .before .before .before .reading2 .given .1) (found c .before .before .before .before .before .before .before .before .before .pixels .ensures) (f .radon-corners-u8 .ensures .0) (f .radon-corners-u8 .ensures .1)
+    when-read (now (s .args .file)) (lent s) (r .read .ensures) (now (found c .before .before .before .before .before .before .before .before .before .pixels .result)) _ (found c .before .before .before .before .before .before .before .before .before .before .before .reading2 .given .1) (found c .before .before .before .before .before .before .before .before .before .pixels .ensures .values) (f .radon-corners-u8 .ensures .0) (f .radon-corners-u8 .ensures .1)
 
 pub run-spec : {M : Type 1} → statement M
 run-spec =

@@ -1,22 +1,26 @@
 -- `frame::fields::half` meets its contract. Assumes nothing.
 use native.Mathlib.Omega.{arith}
 use borrow.Author.Needs.{needs}
-use borrow.Author.Tests.{le-leb, lt-leb}
-use Rattle.frame.proofs.Outcomes.{passes, fails}
 use Rattle.frame.proofs.fields.half.Statement.{statement}
 use Rattle.frame.proofs.fields.half.Tie as tie
 
+byte-requires : tie.Need-byte-requires
+byte-requires c κs = search needs
+
+add-byte : tie.Need-add-byte
+add-byte c = search needs
+
+byte-requires-2 : tie.Need-byte-requires-2
+byte-requires-2 c κs = search needs
+
+mul-result : tie.Need-mul-result
+mul-result c = search needs
+
+add-result : tie.Need-add-result
+add-result c = search needs
+
+returns : tie.Need-returns
+returns c = (omega arith, omega arith)
+
 pub half-spec : {M : Type 1} → statement M
-half-spec =
-    tie.close
-    (tie.spec
-    (λ c. search needs)
-    (λ c. fails _ _ (lt-leb _ _ (c .if1 .taken)))
-    (λ c. search needs)
-    (λ c κs. search needs)
-    (λ c. search needs)
-    (λ c. search needs)
-    (λ c κs. search needs)
-    (λ c. search needs)
-    (λ c. search needs)
-    (λ c. passes _ _ (omega arith) (le-leb _ _ (c .before .before .before .before .if1 .left))))
+half-spec = tie.close (tie.spec byte-requires add-byte byte-requires-2 mul-result add-result returns)

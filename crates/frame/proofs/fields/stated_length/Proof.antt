@@ -1,20 +1,32 @@
 -- `frame::fields::stated_length` meets its contract. Assumes nothing.
-use native.Mathlib.Omega.{arith}
+use Prim.Native.Nat.{ℕ, _-_}
 use borrow.Author.Needs.{needs}
+use borrow.Author.Tests.{eq-eqb, ne-eqb}
+use denote.Ref.{now}
 use lib.ListN.{length}
-use Rattle.frame.proofs.Outcomes.{present, other, same}
+use Rattle.params.specs.declared.Answer.the-variants.{StatedLength}
+use Rattle.frame.proofs.Order.{refuses, holds}
 use Rattle.frame.proofs.fields.stated_length.Statement.{statement}
 use Rattle.frame.proofs.fields.stated_length.Tie as tie
 
+-- the number of bytes that follow the stated length
+abbrev due : tie.After-word → ℕ
+due c = length (now (c .before .before .args .file)) - 5
+
+word-requires : tie.Need-word-requires
+word-requires c κs = search needs
+
+cast-if1 : tie.Need-cast-if1
+cast-if1 c = search needs
+
+sub-if1 : tie.Need-sub-if1
+sub-if1 c = search needs
+
+returns : tie.Need-returns
+returns c = refuses StatedLength _ _ (rw (← c .before .word .ensures) (ne-eqb _ (due (c .before)) (c .if1 .taken)))
+
+returns-2 : tie.Need-returns-2
+returns-2 c = holds StatedLength _ _ (c .before .word .ensures) (rw (← c .before .word .ensures) (eq-eqb _ (due (c .before)) (c .if1 .left)))
+
 pub stated-length-spec : {M : Type 1} → statement M
-stated-length-spec =
-    tie.close
-    (tie.spec
-    (λ c κs. search needs)
-    (λ c. search needs)
-    (λ c. search needs)
-    (λ c. absurd (present 5 (length (c .before .before .before .before .args .file .now)) _ (c .before .before .word .ensures) (omega arith) (c .enum-told .given .1)))
-    (λ c. search needs)
-    (λ c. search needs)
-    (λ c. other _ _ _ (c .before .before .before .before .word .ensures) (c .before .before .stated .given .1) (c .if1 .taken))
-    (λ c. same _ _ _ (c .before .before .before .before .word .ensures) (c .before .before .stated .given .1) (c .if1 .left)))
+stated-length-spec = tie.close (tie.spec word-requires cast-if1 sub-if1 returns returns-2)

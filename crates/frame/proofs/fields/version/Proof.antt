@@ -1,18 +1,19 @@
 -- `frame::fields::version` meets its contract. Assumes nothing.
-use native.Mathlib.Omega.{arith}
 use borrow.Author.Needs.{needs}
-use lib.ListN.{length}
-use Rattle.frame.proofs.Outcomes.{present, other, same}
+use borrow.Author.Tests.{eq-eqb, ne-eqb}
+use Rattle.params.specs.declared.Answer.the-variants.{Version}
+use Rattle.frame.proofs.Order.{refuses, holds}
 use Rattle.frame.proofs.fields.version.Statement.{statement}
 use Rattle.frame.proofs.fields.version.Tie as tie
 
+byte-requires : tie.Need-byte-requires
+byte-requires c κs = search needs
+
+returns : tie.Need-returns
+returns c = refuses Version _ _ (rw (← c .before .byte .ensures .0) (ne-eqb _ 1 (c .if1 .taken)))
+
+returns-2 : tie.Need-returns-2
+returns-2 c = holds Version _ _ (c .before .byte .ensures .0) (rw (← c .before .byte .ensures .0) (eq-eqb _ 1 (c .if1 .left)))
+
 pub version-spec : {M : Type 1} → statement M
-version-spec =
-    tie.close
-    (tie.spec
-    (λ c κs. search needs)
-    (λ c. search needs)
-    (λ c. search needs)
-    (λ c. absurd (present 1 (length (c .before .before .before .before .args .file .now)) _ (c .before .before .byte .ensures) (omega arith) (c .enum-told .given .1)))
-    (λ c. other _ _ _ (c .before .before .before .before .byte .ensures) (c .before .before .v .given .1) (c .if1 .taken))
-    (λ c. same _ _ _ (c .before .before .before .before .byte .ensures) (c .before .before .v .given .1) (c .if1 .left)))
+version-spec = tie.close (tie.spec byte-requires returns returns-2)
