@@ -1,6 +1,5 @@
 -- `corners::print` meets its contract: it ends after the last line. Assumes nothing.
 use Prim.Native.Nat.{_-_, _≤_}
-use native.Mathlib.Omega.{arith}
 use borrow.Author.Needs.{needs}
 use Rattle.corners.proofs.print.Statement.{statement}
 use Rattle.corners.proofs.print.Tie as tie
@@ -18,9 +17,10 @@ print-spec =
     Inv-loop
     μ-loop
     (λ c κs. search needs)
-    (λ c. omega arith)
+    (λ c. search needs)
     (λ c κs. search needs)
-    (λ c. omega arith)
-    (λ c. omega arith)
-    (λ c. omega arith)
+    (λ c. search needs)
+    (λ c. search needs)
+    (λ c. search needs)
+    (λ c. search needs)
     (λ c. search needs))
