@@ -1,0 +1,31 @@
+-- `replay::part` meets its contract: three cases, in each where it lies. Assumes nothing.
+use mathlib.Core.Path.{refl}
+use Rattle.replay.proofs.Places.{part-none, part-found, behind-end, turned, inside, end-empty}
+use borrow.Author.Needs.{needs}
+use Rattle.replay.proofs.part.Statement.{statement}
+use Rattle.replay.proofs.part.Tie as tie
+
+returns : tie.Need-returns
+returns c = part-none _ _ _ _ (behind-end _ _ _ (c .before .if1 .taken)) (end-empty (c .before .before .args .s .now)) refl
+
+returns-2 : tie.Need-returns-2
+returns-2 c = part-none _ _ _ _ (turned _ _ _ (c .before .before .if1 .left) (c .before .if2 .taken)) (end-empty (c .before .before .before .args .s .now)) refl
+
+returns-3 : tie.Need-returns-3
+returns-3 c = part-found _ _ _ _ (inside _ _ _ (c .before .before .if1 .left) (c .before .if2 .left)) refl refl
+
+pub part-spec : {M : Type 1} → statement M
+part-spec =
+    tie.close
+    (tie.spec
+    (λ c. search needs)
+    (λ c. search needs)
+    (λ c. search needs)
+    returns
+    (λ c. search needs)
+    (λ c. search needs)
+    (λ c. search needs)
+    returns-2
+    (λ c. search needs)
+    (λ c. search needs)
+    returns-3)

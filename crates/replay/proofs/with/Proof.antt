@@ -1,0 +1,22 @@
+-- `replay::with` meets its contract: a record more, that agrees or not. Assumes nothing.
+use Rattle.replay.proofs.Counting.{agrees, disagrees}
+use borrow.Author.Needs.{needs}
+use Rattle.replay.proofs.with.Statement.{statement}
+use Rattle.replay.proofs.with.Tie as tie
+
+returns : tie.Need-returns
+returns c = agrees _ _ (c .plus .ensures) (c .before .if1 .taken)
+
+returns-2 : tie.Need-returns-2
+returns-2 c = disagrees _ _ (c .before .before .plus2 .ensures) (c .before .before .before .if1 .left) (c .before .plus3 .ensures) (c .earliest .ensures)
+
+pub with-spec : {M : Type 1} → statement M
+with-spec =
+    tie.close
+    (tie.spec
+    (λ c κs. search needs)
+    returns
+    (λ c κs. search needs)
+    (λ c κs. search needs)
+    (λ c κs. search needs)
+    returns-2)

@@ -1,0 +1,25 @@
+-- `replay::word_at` meets its contract: an entry, or none past the end. Assumes nothing.
+use mathlib.Core.Path.{_∙_}
+use Rattle.replay.specs.Vectors.{noWord}
+use Rattle.replay.proofs.Places.{entry, past}
+use borrow.Author.Needs.{needs}
+use Rattle.replay.proofs.word_at.Statement.{statement}
+use Rattle.replay.proofs.word_at.Tie as tie
+
+returns : tie.Need-returns
+returns c = 
+    let s = c .before .before .before .before in
+    c .wide32 .ensures .0 ∙ entry (s .args .t .now) (s .args .i) 0 noWord (c .before .before .if1 .taken)
+
+returns-2 : tie.Need-returns-2
+returns-2 c = past (c .before .before .args .t .now) (c .before .before .args .i) noWord (c .if1 .left)
+
+pub word-at-spec : {M : Type 1} → statement M
+word-at-spec =
+    tie.close
+    (tie.spec
+    (λ c. search needs)
+    (λ c. search needs)
+    (λ c κs. search needs)
+    returns
+    returns-2)
