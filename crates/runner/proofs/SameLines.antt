@@ -39,7 +39,7 @@ corner-lines stride (suc n) l m e =
     let all : stride + stride * n ≡ stride * suc n = omega (arith, mul-suc stride n) in
     let one : take stride l ≡ take stride m = sym (take-take stride (stride * suc n) l (omega arith)) ∙ ap (take stride) e ∙ take-take stride (stride * suc n) m (omega arith) in
     let rest : take (stride * n) (drop stride l) ≡ take (stride * n) (drop stride m) =
-      rw (take-drop (stride * n) stride l, take-drop (stride * n) stride m, all, e) in
+    rw (take-drop (stride * n) stride l, take-drop (stride * n) stride m, all, e) in
     rw (one, corner-lines stride n (drop stride l) (drop stride m) rest)
 
 printed-same : (o : Outcome) (l m : List Float) → length l ≡ length m

@@ -6,7 +6,7 @@ use Rattle.replay.proofs.byte.Statement.{statement}
 use Rattle.replay.proofs.byte.Tie as tie
 
 returns : tie.Need-returns
-returns c = 
+returns c =
     let s = c .before .before .before .before in
     c .wide .ensures .0 ∙ entry (s .args .s .now) (s .args .at) 0 256 (c .before .before .if1 .taken)
 

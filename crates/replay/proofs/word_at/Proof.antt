@@ -7,7 +7,7 @@ use Rattle.replay.proofs.word_at.Statement.{statement}
 use Rattle.replay.proofs.word_at.Tie as tie
 
 returns : tie.Need-returns
-returns c = 
+returns c =
     let s = c .before .before .before .before in
     c .wide32 .ensures .0 ∙ entry (s .args .t .now) (s .args .i) 0 noWord (c .before .before .if1 .taken)
 

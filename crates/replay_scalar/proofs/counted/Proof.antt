@@ -1,13 +1,11 @@
--- `replay_scalar::counted` meets its contract: a record has at most 16 bytes, so the place stays within reach. Assumes nothing.
-use mathlib.Core.Logic.{⊎-elim}
-use Prim.Native.Nat.{_+_, _-_, _*_, _≤_}
-use native.Mathlib.Omega.{arith}
+-- `replay_scalar::counted` meets its contract: it ends after the last record. Assumes nothing.
+use Prim.Native.Nat.{_-_, _≤_}
 use borrow.Author.Needs.{needs}
 use Rattle.replay_scalar.proofs.counted.Statement.{statement}
 use Rattle.replay_scalar.proofs.counted.Tie as tie
 
 abbrev Inv-loop : tie.InvT-loop
-Inv-loop s kind from many size agree₀ first₀ at₀ i₀ agree first at i = (i ≤ many) × (at ≤ 65536 + 16 * i) × (agree ≤ i)
+Inv-loop s kind from many size agree₀ first₀ at₀ i₀ agree first at i = i ≤ many
 
 abbrev μ-loop : tie.MeasureT-loop
 μ-loop s kind from many size agree₀ first₀ at₀ i₀ agree first at i = many - i
@@ -19,12 +17,12 @@ counted-spec =
     Inv-loop
     μ-loop
     (λ c κs. search needs)
-    (λ c. omega arith)
-    (λ c κs. omega arith)
-    (λ c. omega arith)
+    (λ c. search needs)
     (λ c κs. search needs)
-    (λ c. omega arith)
-    (λ c. omega arith)
-    (λ c. omega arith)
-    (λ c. ⊎-elim (λ w. omega arith) (λ w. omega arith) (c .if1 .came))
+    (λ c κs. search needs)
+    (λ c κs. search needs)
+    (λ c κs. search needs)
+    (λ c. search needs)
+    (λ c. search needs)
+    (λ c. search needs)
     (λ c. search needs))

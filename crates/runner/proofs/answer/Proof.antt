@@ -36,8 +36,8 @@ returns : tie.Need-returns
 returns c =
     let s = start c in
     let a =
-      answers (buffers s) (sizes c) (now (s .args .input)) (s .args .got) (found c .before .first-arg .given .0)
-      (found c .first .ensures) (c .run .ensures .0) (c .run .ensures .1) in
+    answers (buffers s) (sizes c) (now (s .args .input)) (s .args .got) (found c .before .first-arg .given .0)
+    (found c .first .ensures) (c .run .ensures .0) (c .run .ensures .1) in
     (a .answer, (a .left, (a .lines, a .whole)))
 
 pub answer-spec : {M : Type 1} → statement M
