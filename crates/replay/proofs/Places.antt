@@ -29,7 +29,8 @@ pub no-word : (s : List ℕ) (at : ℕ) → length s < at + 4 → noWord ≡ wor
 unfolding wordAt
 no-word s at h = rw (lt-leb (at + 4) (length s) h)
 
-pub word-found : (s : List ℕ) (at : ℕ) {a b c d : ℕ} → at + 4 ≤ length s → a ≡ getD s at 0 → b ≡ getD s (at + 1) 0 → c ≡ getD s (at + 2) 0 → d ≡ getD s (at + 3) 0
+pub word-found : (s : List ℕ) (at : ℕ) {a b c d : ℕ} → at + 4 ≤ length s
+    → a ≡ getD s at 0 → b ≡ getD s (at + 1) 0 → c ≡ getD s (at + 2) 0 → d ≡ getD s (at + 3) 0
     → a * 16777216 + b * 65536 + c * 256 + d ≡ wordAt s at
 unfolding wordAt
 word-found s at h p q r t = rw (le-leb (at + 4) (length s) h, p, q, r, t)
@@ -41,7 +42,8 @@ module _ (s : RefT (List ℕ)) (from to : ℕ) (r : RefT (List ℕ)) where
   unfolding partOf partStart
   part-none t u p = record { values = rw t u; itself = rw t p }
 
-  pub part-found : leb to (length (now s)) && leb from to ≡ true → now r ≡ take (to - from) (drop from (now s)) → ptr r ≡ (ptr s .0, from + ptr s .1) → Part s from to r
+  pub part-found : leb to (length (now s)) && leb from to ≡ true → now r ≡ take (to - from) (drop from (now s))
+      → ptr r ≡ (ptr s .0, from + ptr s .1) → Part s from to r
   unfolding partOf partStart
   part-found t u p = record { values = rw t u; itself = rw t p }
 

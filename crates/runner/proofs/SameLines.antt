@@ -1,11 +1,12 @@
--- What is printed for a file depends on the file alone: not on what the buffers held before, and on no byte past the first 2,325. Assumes nothing.
+-- What is printed for a file depends on the file alone: not on what the buffers held before, and on no byte past the first 2,325.
+-- Assumes nothing.
 use mathlib.Core.Path.{_≡_, refl, sym, ap, _∙_}
 use mathlib.Core.Logic.{_⊎_, inl, inr}
 use mathlib.Core.List.{List, [], _∷_}
 use Prim.Native.Nat.{ℕ, zero, suc, _+_, _-_, _*_, _/_, _≤_, _<_, min}
 use native.Mathlib.Nat.{zero-add, suc-add, mul-suc, add-comm}
 use native.Mathlib.Omega.{arith}
-use borrow.Author.Tests.{lt-ltb}
+use borrow.Author.Tests.{lt-ltb, le-ltb}
 use lib.Ieee.{Float}
 use lib.ListN.{length, take, drop, length-take, length-replicate}
 use lib.Seq.{take-nil, take-take, take-all}
@@ -18,7 +19,7 @@ use Rattle.params.specs.Answers.{numberOf, refused}
 use Rattle.frame.specs.declared.Reading.{Reading}
 use Rattle.frame.specs.declared.Reading.the-variants.{Frame, Refused}
 use Rattle.frame.specs.FrameFile.{readOf}
-use Rattle.frame.specs.Printed.{cornerLines, stored, printed}
+use Rattle.frame.specs.Printed.{refusedLine, cornerLines, stored, printed}
 use Rattle.response.specs.Map.{roomOf}
 use Rattle.radon.specs.Finder.{Buffers, answered, outcomeOf as finderOutcome, buffersOf as finderBuffers}
 use Rattle.radon.proofs.Demands.{refusal-leaves-all, accepted-is, accepted-count, same-answer, same-list}
@@ -37,7 +38,9 @@ unfolding cornerLines
 corner-lines stride zero l m e = refl
 corner-lines stride (suc n) l m e =
     let all : stride + stride * n ≡ stride * suc n = omega (arith, mul-suc stride n) in
-    let one : take stride l ≡ take stride m = sym (take-take stride (stride * suc n) l (omega arith)) ∙ ap (take stride) e ∙ take-take stride (stride * suc n) m (omega arith) in
+    let within : stride ≤ stride * suc n = omega arith in
+    let opens : (k : List Float) → take stride (take (stride * suc n) k) ≡ take stride k = λ k. take-take stride (stride * suc n) k within in
+    let one : take stride l ≡ take stride m = sym (opens l) ∙ ap (take stride) e ∙ opens m in
     let rest : take (stride * n) (drop stride l) ≡ take (stride * n) (drop stride m) =
     rw (take-drop (stride * n) stride l, take-drop (stride * n) stride m, all, e) in
     rw (one, corner-lines stride n (drop stride l) (drop stride m) rest)
@@ -64,41 +67,51 @@ zero-or-not : (n : ℕ) → (n ≡ 0) ⊎ (n ≡ 0 → ⊥)
 zero-or-not zero = inl refl
 zero-or-not (suc n) = inr (λ e. omega arith)
 
-module _ (img : List ℕ) (w h : ℕ) (p : RadonDetectorParams) (b c : Buffers) (room : roomOf (b .map) ≡ roomOf (c .map)) (list : length (b .list) ≡ length (c .list)) where
+-- what an answer is judged on is the same
+pub record Alike (b c : Buffers) : Type 0 where
+  pub room : roomOf (b .map) ≡ roomOf (c .map)
+  pub list : length (b .list) ≡ length (c .list)
+
+abbrev listLength : Buffers → ℕ
+listLength b = length (b .list)
+
+module _ (img : List ℕ) (w h : ℕ) (p : RadonDetectorParams) (b c : Buffers) (same : Alike b c) where
   abbrev answerOver : Buffers → Outcome
   answerOver b = finderOutcome img w h p b
 
   abbrev listOver : Buffers → List Float
   listOver b = (finderBuffers img w h p b) .list
 
-  long : (b : Buffers) → numberOf (answered img w h p b) ≡ 0 → length (listOver b) ≡ length (b .list)
-  long b z = ap (λ (x : Buffers). length (x .list)) (accepted-is img w h p b z) ∙ written-long _ _ _ (b .list)
+  long : (b : Buffers) → numberOf (answered img w h p b) ≡ 0 → length (listOver b) ≡ listLength b
+  long b z = ap listLength (accepted-is img w h p b z) ∙ written-long _ _ _ (b .list)
 
   lines-accepted : numberOf (answered img w h p b) ≡ 0 → printed 3 (answerOver b) (listOver b) ≡ printed 3 (answerOver b) (listOver c)
   lines-accepted z =
-      let y : numberOf (answered img w h p c) ≡ 0 = rw room at z in
-      let n : length (listOver b) ≡ length (listOver c) = long b z ∙ list ∙ sym (long c y) in
-      printed-same (answerOver b) (listOver b) (listOver c) n (rw (accepted-count img w h p b z, long b z) (same-list img w h p b c room list z))
+      let y : numberOf (answered img w h p c) ≡ 0 = rw (same .room) at z in
+      let n : length (listOver b) ≡ length (listOver c) = long b z ∙ same .list ∙ sym (long c y) in
+      printed-same (answerOver b) (listOver b) (listOver c) n
+      (rw (accepted-count img w h p b z, long b z) (same-list img w h p b c (same .room) (same .list) z))
 
   lines-refused : (numberOf (answered img w h p b) ≡ 0 → ⊥) → printed 3 (answerOver b) (listOver b) ≡ printed 3 (answerOver b) (listOver c)
   lines-refused z =
-      let y : numberOf (answered img w h p c) ≡ 0 → ⊥ = λ e. z (rw room e) in
+      let y : numberOf (answered img w h p c) ≡ 0 → ⊥ = λ e. z (rw (same .room) e) in
       let f = refusal-leaves-all img w h p b z in
       let g = refusal-leaves-all img w h p c y in
-      let n : length (listOver b) ≡ length (listOver c) = ap (λ (x : Buffers). length (x .list)) (f .1) ∙ list ∙ sym (ap (λ (x : Buffers). length (x .list)) (g .1)) in
+      let n : length (listOver b) ≡ length (listOver c) = ap listLength (f .1) ∙ same .list ∙ sym (ap listLength (g .1)) in
       refused-same (answerOver b) (listOver b) (listOver c) (ap (λ (o : Outcome). o .count) (f .0)) n
 
   finder-lines : printed 3 (answerOver b) (listOver b) ≡ printed 3 (answerOver c) (listOver c)
   finder-lines =
       elim (zero-or-not (numberOf (answered img w h p b))) [ inl z ↦ lines-accepted z | inr z ↦ lines-refused z ]
-      ∙ ap (λ (o : Outcome). printed 3 o (listOver c)) (same-answer img w h p b c room list)
+      ∙ ap (λ (o : Outcome). printed 3 o (listOver c)) (same-answer img w h p b c (same .room) (same .list))
 
 -- ---- the program's
 
-module _ (file : List ℕ) (b c : Buffers) (room : roomOf (b .map) ≡ roomOf (c .map)) (list : length (b .list) ≡ length (c .list)) where
-  lines-for : (r : Reading) → printed 3 (outcomeFor file b r) ((buffersFor file b r) .list) ≡ printed 3 (outcomeFor file c r) ((buffersFor file c r) .list)
-  lines-for (Refused a) = refused-same (refused a) (b .list) (c .list) refl list
-  lines-for (Frame h) = finder-lines (drop 20 file) (h .width) (h .height) (h .params) b c room list
+module _ (file : List ℕ) (b c : Buffers) (same : Alike b c) where
+  lines-for : (r : Reading)
+      → printed 3 (outcomeFor file b r) ((buffersFor file b r) .list) ≡ printed 3 (outcomeFor file c r) ((buffersFor file c r) .list)
+  lines-for (Refused a) = refused-same (refused a) (b .list) (c .list) refl (same .list)
+  lines-for (Frame h) = finder-lines (drop 20 file) (h .width) (h .height) (h .params) b c same
 
   -- "What a buffer held before the call changes no answer and no written number": nor any line
   pub same-lines : linesOver b file ≡ linesOver c file
@@ -135,12 +148,17 @@ sized-zeros n k = record {
 lines-sized : (n k : ℕ) (b : Buffers) → Sized n k b → (file : List ℕ) → linesOver b file ≡ linesOver (zeros n k) file
 lines-sized n k b s file =
     let z = sized-zeros n k in
-    same-lines file b (zeros n k) (room-is n k b s ∙ sym (room-is n k (zeros n k) z)) (s .list ∙ sym (z .list))
+    same-lines file b (zeros n k) (record { room = room-is n k b s ∙ sym (room-is n k (zeros n k) z); list = s .list ∙ sym (z .list) })
 
--- a file longer than 2,324 bytes is refused as too long
-long-lines : (file : List ℕ) → limit < length file → linesOf file ≡ printed 3 (refused FileTooLong) ((zeros 2304 256) .list)
-unfolding linesOf linesOver outcomeOf buffersOf readOf
-long-lines file h = rw (lt-ltb limit (length file) h)
+-- "10 over 2,324 bytes": `refused 10`
+pub too-long-lines : (file : List ℕ) → limit < length file → linesOf file ≡ refusedLine 10 ∷ []
+unfolding linesOf linesOver outcomeOf buffersOf readOf printed
+too-long-lines file h = rw (lt-ltb limit (length file) h)
+
+-- "11 under 20 bytes": `refused 11`, an empty file too
+pub too-short-lines : (file : List ℕ) → length file < 20 → linesOf file ≡ refusedLine 11 ∷ []
+unfolding linesOf linesOver outcomeOf buffersOf readOf printed
+too-short-lines file h = rw (le-ltb limit (length file) (omega arith), lt-ltb (length file) 20 h)
 
 -- 2,325 bytes are enough: a file of any length prints the lines of its first 2,325 bytes
 pub opening-bytes-enough : (file : List ℕ) → linesOf file ≡ linesOf (take 2325 file)
@@ -150,24 +168,28 @@ opening-bytes-enough file = by-length (zero-or-not (length file - 2325))
     by-length (inl e) = ap linesOf (sym (take-all 2325 file (omega arith)))
     by-length (inr n) =
         let more : limit < length file = omega arith in
-        long-lines file more ∙ sym (long-lines (take 2325 file) (omega (arith, length-take 2325 file)))
+        too-long-lines file more ∙ sym (too-long-lines (take 2325 file) (omega (arith, length-take 2325 file)))
 
 -- what reading leaves of a file in an array of 2,325 bytes prints the lines of the file
-whole-file : (file input : List ℕ) (got : ℕ) → length input ≡ 2325 → take (length input) file ≡ take got input → linesOf (take got input) ≡ linesOf file
+whole-file : (file input : List ℕ) (got : ℕ) → length input ≡ 2325 → take (length input) file ≡ take got input
+    → linesOf (take got input) ≡ linesOf file
 whole-file file input got n e = ap linesOf (sym (rw n at e)) ∙ sym (opening-bytes-enough file)
 
--- what `run` answers and leaves, over buffers of the program's sizes, is what the program prints of what was read, and of the file that it was read from
+-- over buffers of the program's sizes, what `run` answers and leaves is what the program prints: of what was read, and of the file it was read from
 module _ (b : Buffers) (sizes : Sized 2304 256 b) (input : List ℕ) (got : ℕ) (long : length input ≡ 2325) where
-  pub record Answers (o : Outcome) (after : Buffers) : Type 0 where
-    pub answer : o ≡ outcomeOf (take got input) b
-    pub left : after ≡ buffersOf (take got input) b
-    pub lines : printed 3 o (after .list) ≡ linesOf (take got input)
-    pub whole : (file : List ℕ) → take (length input) file ≡ take got input → printed 3 o (after .list) ≡ linesOf file
+  abbrev file : List ℕ
+  file = take got input
 
-  pub answers : {read : List ℕ} → read ≡ take got input → {o : Outcome} {after : Buffers} → o ≡ outcomeOf read b → after ≡ buffersOf read b → Answers o after
+  pub record Answers (o : Outcome) (after : Buffers) : Type 0 where
+    pub answer : o ≡ outcomeOf file b
+    pub left : after ≡ buffersOf file b
+    pub lines : printed 3 o (after .list) ≡ linesOf file
+    pub whole : (f : List ℕ) → take (length input) f ≡ file → printed 3 o (after .list) ≡ linesOf f
+
+  pub answers : {read : List ℕ} → read ≡ file → {o : Outcome} {after : Buffers}
+      → o ≡ outcomeOf read b → after ≡ buffersOf read b → Answers o after
   unfolding linesOver linesOf
   answers e {o} {after} p q =
-      let file = take got input in
       let answer : o ≡ outcomeOf file b = p ∙ ap (λ (f : List ℕ). outcomeOf f b) e in
       let left : after ≡ buffersOf file b = q ∙ ap (λ (f : List ℕ). buffersOf f b) e in
       let lines : printed 3 o (after .list) ≡ linesOf file = rw (answer, left) (lines-sized 2304 256 b sizes file) in

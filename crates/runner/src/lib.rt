@@ -50,9 +50,9 @@ pub fn run(
     }
 }
 
-// What the program answers to what it has read, in buffers of the program's sizes: room for 2,304 working pixels, for 256 corners, and for one byte more than
-// the longest frame file has, so that a longer one is seen to be too long. The lines are fixed by the bytes that were read; and where those are as much of a
-// file as the array takes, by the whole file.
+// What the program answers to what it has read, in buffers of the program's sizes: room for 2,304 working pixels, for 256 corners, and for one
+// byte more than the longest frame file has, so that a longer one is seen to be too long. The lines are fixed by the bytes that were read; and
+// where those are as much of a file as the array takes, by the whole file.
 pub fn answer(
     input: &[u8; 2325],
     got: usize,
@@ -65,7 +65,8 @@ pub fn answer(
     scratch: &mut [f32; 2304],
     list: &mut [f32; 768],
 ) -> Outcome
-    ensures answer { λ r. ⌜ r ≡ outcomeOf (take got (now (input .entry))) (lent (now (working .entry)) (now (row .entry)) (now (col .entry)) (now (pos .entry))
+    ensures answer { λ r. ⌜ r ≡ outcomeOf (take got (now (input .entry)))
+        (lent (now (working .entry)) (now (row .entry)) (now (col .entry)) (now (pos .entry))
         (now (neg .entry)) (now (response .entry)) (now (scratch .entry)) (now (list .entry))) ⌝ }
     ensures buffers { λ _. ⌜ lent (now (working .exit)) (now (row .exit)) (now (col .exit)) (now (pos .exit))
         (now (neg .exit)) (now (response .exit)) (now (scratch .exit)) (now (list .exit))

@@ -9,7 +9,9 @@ returns : tie.Need-returns
 returns c = part-none _ _ _ _ (behind-end _ _ _ (c .before .if1 .taken)) (end-empty (c .before .before .args .s .now)) refl
 
 returns-2 : tie.Need-returns-2
-returns-2 c = part-none _ _ _ _ (turned _ _ _ (c .before .before .if1 .left) (c .before .if2 .taken)) (end-empty (c .before .before .before .args .s .now)) refl
+returns-2 c =
+    let s = c .before .before .before in
+    part-none _ _ _ _ (turned _ _ _ (c .before .before .if1 .left) (c .before .if2 .taken)) (end-empty (s .args .s .now)) refl
 
 returns-3 : tie.Need-returns-3
 returns-3 c = part-found _ _ _ _ (inside _ _ _ (c .before .before .if1 .left) (c .before .if2 .left)) refl refl

@@ -8,7 +8,9 @@ returns : tie.Need-returns
 returns c = agrees _ _ (c .plus .ensures) (c .before .if1 .taken)
 
 returns-2 : tie.Need-returns-2
-returns-2 c = disagrees _ _ (c .before .before .plus2 .ensures) (c .before .before .before .if1 .left) (c .before .plus3 .ensures) (c .earliest .ensures)
+returns-2 c =
+    let p = c .before .before in
+    disagrees _ _ (p .plus2 .ensures) (p .before .if1 .left) (c .before .plus3 .ensures) (c .earliest .ensures)
 
 pub with-spec : {M : Type 1} → statement M
 with-spec =

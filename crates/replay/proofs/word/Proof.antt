@@ -17,7 +17,8 @@ returns-3 c =
     let w2 = w3 .before .before in
     let w1 = w2 .before .before in
     let k = w1 .before .before in (
-      word-found _ _ (omega (arith, k .before .if1 .left, k .if2 .left)) (w1 .wide .ensures .0) (w2 .wide2 .ensures .0) (w3 .wide3 .ensures .0) (c .wide4 .ensures .0),
+      word-found _ _ (omega (arith, k .before .if1 .left, k .if2 .left))
+          (w1 .wide .ensures .0) (w2 .wide2 .ensures .0) (w3 .wide3 .ensures .0) (c .wide4 .ensures .0),
       omega (arith, w1 .wide .ensures .1, w2 .wide2 .ensures .1, w3 .wide3 .ensures .1, c .wide4 .ensures .1),
     )
 

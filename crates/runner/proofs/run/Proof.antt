@@ -38,8 +38,8 @@ returns-2 c =
     let p = cut f in
     let r = taken p in
     let s = start r in
-    when-read (now (s .args .file)) (buffers s) (r .read .ensures) (now (p .pixels .result)) _ (p .before .before .reading2 .given .1) (p .pixels .ensures)
-    (f .radon-corners-u8 .ensures .0) (f .radon-corners-u8 .ensures .1)
+    when-read (now (s .args .file)) (buffers s) (r .read .ensures) (now (p .pixels .result)) _
+    (p .before .before .reading2 .given .1) (p .pixels .ensures) (f .radon-corners-u8 .ensures .0) (f .radon-corners-u8 .ensures .1)
 
 pub run-spec : {M : Type 1} → statement M
 run-spec =
