@@ -17,7 +17,7 @@ const NO_WORD: u64 = 4294967296;
 // No count goes over this.
 const MOST: usize = 4294967296;
 
-// Room for a whole list.
+// Room for a whole list, with zeros in it. A caller's proof sees the array's length, and not its million bytes.
 pub fn room() -> [u8; 1048576]
     ensures { λ r. ⌜ r ≡ zeros 1048576 ⌝ }
 {

@@ -3,8 +3,8 @@
 use mathlib.Core.Path.{_≡_, refl, sym, ap, _∙_}
 use mathlib.Core.Logic.{_⊎_, inl, inr}
 use mathlib.Core.List.{List, [], _∷_}
-use Prim.Native.Nat.{ℕ, zero, suc, _+_, _-_, _*_, _/_, _≤_, _<_, min}
-use native.Mathlib.Nat.{zero-add, suc-add, mul-suc, add-comm}
+use Prim.Native.Nat.{ℕ, zero, suc, _+_, _-_, _*_, _≤_, _<_}
+use native.Mathlib.Nat.{zero-add, suc-add, mul-suc}
 use native.Mathlib.Omega.{arith}
 use borrow.Author.Tests.{lt-ltb, le-ltb}
 use lib.Ieee.{Float}
@@ -14,7 +14,6 @@ use Rattle.grid.specs.Over.{written, length-over}
 use Rattle.float.specs.Values.{f0}
 use Rattle.params.specs.declared.Outcome.{Outcome}
 use Rattle.params.specs.declared.RadonDetectorParams.{RadonDetectorParams}
-use Rattle.params.specs.declared.Answer.the-variants.{FileTooLong}
 use Rattle.params.specs.Answers.{numberOf, refused}
 use Rattle.frame.specs.declared.Reading.{Reading}
 use Rattle.frame.specs.declared.Reading.the-variants.{Frame, Refused}
@@ -23,7 +22,7 @@ use Rattle.frame.specs.Printed.{refusedLine, cornerLines, stored, printed}
 use Rattle.response.specs.Map.{roomOf}
 use Rattle.radon.specs.Finder.{Buffers, answered, outcomeOf as finderOutcome, buffersOf as finderBuffers}
 use Rattle.radon.proofs.Demands.{refusal-leaves-all, accepted-is, accepted-count, same-answer, same-list}
-use Rattle.runner.specs.Run.{lent, limit, outcomeFor, outcomeOf, buffersFor, buffersOf}
+use Rattle.runner.specs.Run.{limit, outcomeFor, outcomeOf, buffersFor, buffersOf}
 use Rattle.runner.specs.Program.{zeros, linesOver, linesOf}
 
 -- ---- the lines of a list: they are those of the numbers that are stored

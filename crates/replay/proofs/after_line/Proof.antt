@@ -1,6 +1,5 @@
 -- `replay::after_line` meets its contract: it stops behind the first line feed, or at the end. Assumes nothing.
 use Prim.Native.Nat.{_-_}
-use native.Mathlib.Omega.{arith}
 use lib.ListN.{length}
 use Rattle.replay.proofs.Places.{Passed, passed-none, passed-feed, passed-more, passed-all}
 use borrow.Author.Needs.{needs}
@@ -16,8 +15,20 @@ abbrev μ-loop : tie.MeasureT-loop
 loop-holds : tie.Need-loop-holds Inv-loop μ-loop
 loop-holds c = passed-none _
 
+shared-slice-read-if1 : tie.Need-shared-slice-read-if1 Inv-loop μ-loop
+shared-slice-read-if1 c = search needs
+
+add-result : tie.Need-add-result Inv-loop μ-loop
+add-result c = search needs
+
 returns : tie.Need-returns Inv-loop μ-loop
 returns c = passed-feed _ (c .before .before .before .loop .inv) (c .before .before .loop-test .taken) (c .if1 .taken)
+
+add-i : tie.Need-add-i Inv-loop μ-loop
+add-i c = search needs
+
+loop-less : tie.Need-loop-less Inv-loop μ-loop
+loop-less c = search needs
 
 loop-again : tie.Need-loop-again Inv-loop μ-loop
 loop-again c = passed-more _ (c .before .before .before .loop .inv) (c .before .before .loop-test .taken) (c .if1 .left)
@@ -32,10 +43,10 @@ after-line-spec =
     Inv-loop
     μ-loop
     loop-holds
-    (λ c. search needs)
-    (λ c. search needs)
+    shared-slice-read-if1
+    add-result
     returns
-    (λ c. search needs)
-    (λ c. search needs)
+    add-i
+    loop-less
     loop-again
     returns-2)

@@ -12,6 +12,9 @@ returns c = (nan-bits _ (c .if1 .taken), omega arith)
 float-to-bits-wide32 : tie.Need-float-to-bits-wide32
 float-to-bits-wide32 c = no-nan-value _ (c .if1 .left)
 
+wide32-requires : tie.Need-wide32-requires
+wide32-requires c κs = search needs
+
 returns-2 : tie.Need-returns-2
 returns-2 c = (c .wide32 .ensures .0, c .wide32 .ensures .1)
 
@@ -21,5 +24,5 @@ bits-spec =
     (tie.spec
     returns
     float-to-bits-wide32
-    (λ c κs. search needs)
+    wide32-requires
     returns-2)

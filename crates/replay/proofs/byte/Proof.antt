@@ -5,6 +5,12 @@ use borrow.Author.Needs.{needs}
 use Rattle.replay.proofs.byte.Statement.{statement}
 use Rattle.replay.proofs.byte.Tie as tie
 
+shared-slice-read-wide : tie.Need-shared-slice-read-wide
+shared-slice-read-wide c = search needs
+
+wide-requires : tie.Need-wide-requires
+wide-requires c κs = search needs
+
 returns : tie.Need-returns
 returns c =
     let s = c .before .before .before .before in
@@ -17,7 +23,7 @@ pub byte-spec : {M : Type 1} → statement M
 byte-spec =
     tie.close
     (tie.spec
-    (λ c. search needs)
-    (λ c κs. search needs)
+    shared-slice-read-wide
+    wide-requires
     returns
     returns-2)

@@ -1,6 +1,5 @@
 -- `replay::differ` meets its contract: by the test. Assumes nothing.
 use borrow.Author.Tests.{eq-eqb, ne-eqb}
-use borrow.Author.Needs.{needs}
 use Rattle.replay.proofs.differ.Statement.{statement}
 use Rattle.replay.proofs.differ.Tie as tie
 

@@ -1,6 +1,5 @@
 -- `replay::earliest` meets its contract: by the test. Assumes nothing.
 use borrow.Author.Tests.{eq-eqb, ne-eqb}
-use borrow.Author.Needs.{needs}
 use Rattle.replay.proofs.earliest.Statement.{statement}
 use Rattle.replay.proofs.earliest.Tie as tie
 

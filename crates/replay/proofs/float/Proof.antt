@@ -6,6 +6,12 @@ use borrow.Author.Needs.{needs}
 use Rattle.replay.proofs.float.Statement.{statement}
 use Rattle.replay.proofs.float.Tie as tie
 
+cast-float32 : tie.Need-cast-float32
+cast-float32 c = search needs
+
+float32-requires : tie.Need-float32-requires
+float32-requires c κs = search needs
+
 returns : tie.Need-returns
 returns c = c .float32 .ensures ∙ rw (lt-ltb _ _ (c .before .if1 .taken))
 
@@ -16,7 +22,7 @@ pub float-spec : {M : Type 1} → statement M
 float-spec =
     tie.close
     (tie.spec
-    (λ c. search needs)
-    (λ c κs. search needs)
+    cast-float32
+    float32-requires
     returns
     returns-2)

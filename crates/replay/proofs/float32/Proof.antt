@@ -9,6 +9,9 @@ use Rattle.replay.proofs.float32.Tie as tie
 float-from-bits-result : tie.Need-float-from-bits-result
 float-from-bits-result c = no-nan-pattern _ (c .if1 .taken)
 
+returns : tie.Need-returns
+returns c = search needs
+
 returns-2 : tie.Need-returns-2
 returns-2 c = quotient ∙ nan-pattern _ (c .if1 .left)
 
@@ -17,5 +20,5 @@ float32-spec =
     tie.close
     (tie.spec
     float-from-bits-result
-    (λ c. search needs)
+    returns
     returns-2)

@@ -5,6 +5,15 @@ use borrow.Author.Needs.{needs}
 use Rattle.replay.proofs.float_at.Statement.{statement}
 use Rattle.replay.proofs.float_at.Tie as tie
 
+mul-bits : tie.Need-mul-bits
+mul-bits c = search needs
+
+shared-slice-read-bits : tie.Need-shared-slice-read-bits
+shared-slice-read-bits c = search needs
+
+bits-requires : tie.Need-bits-requires
+bits-requires c κs = search needs
+
 returns : tie.Need-returns
 returns c = c .bits .ensures .0 ∙ rw (lt-ltb _ _ (c .before .before .if1 .taken))
 
@@ -15,8 +24,8 @@ pub float-at-spec : {M : Type 1} → statement M
 float-at-spec =
     tie.close
     (tie.spec
-    (λ c. search needs)
-    (λ c. search needs)
-    (λ c κs. search needs)
+    mul-bits
+    shared-slice-read-bits
+    bits-requires
     returns
     returns-2)

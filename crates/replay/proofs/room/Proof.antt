@@ -1,7 +1,6 @@
 -- `replay::room` meets its contract: zeros by definition. Assumes nothing.
 use mathlib.Core.Path.{refl}
 use Rattle.replay.specs.Vectors.{zeros}
-use borrow.Author.Needs.{needs}
 use Rattle.replay.proofs.room.Statement.{statement}
 use Rattle.replay.proofs.room.Tie as tie
 

@@ -6,6 +6,15 @@ use borrow.Author.Needs.{needs}
 use Rattle.replay.proofs.word_at.Statement.{statement}
 use Rattle.replay.proofs.word_at.Tie as tie
 
+mul-wide32 : tie.Need-mul-wide32
+mul-wide32 c = search needs
+
+shared-slice-read-wide32 : tie.Need-shared-slice-read-wide32
+shared-slice-read-wide32 c = search needs
+
+wide32-requires : tie.Need-wide32-requires
+wide32-requires c κs = search needs
+
 returns : tie.Need-returns
 returns c =
     let s = c .before .before .before .before in
@@ -18,8 +27,8 @@ pub word-at-spec : {M : Type 1} → statement M
 word-at-spec =
     tie.close
     (tie.spec
-    (λ c. search needs)
-    (λ c. search needs)
-    (λ c κs. search needs)
+    mul-wide32
+    shared-slice-read-wide32
+    wide32-requires
     returns
     returns-2)

@@ -1,6 +1,6 @@
 -- `replay_program::copy` meets its contract: after i turns the first i bytes are the file's. Assumes nothing.
 use mathlib.Core.Path.{_≡_, refl, sym, ap, _∙_}
-use mathlib.Core.List.{List, [], _∷_, _++_}
+use mathlib.Core.List.{List, [], _∷_}
 use Prim.Native.Nat.{ℕ, zero, suc, _+_, _-_, _≤_, _<_, min}
 use native.Mathlib.Nat.{min-zero, suc-min-suc}
 use native.Mathlib.Numerals.{add-one}
@@ -44,8 +44,23 @@ Inv-loop file input₀ n i₀ input i = Copied file (length input₀) n input i
 abbrev μ-loop : tie.MeasureT-loop
 μ-loop file input₀ n i₀ input i = n - i
 
+least-requires : tie.Need-least-requires Inv-loop μ-loop
+least-requires c κs = search needs
+
 loop-holds : tie.Need-loop-holds Inv-loop μ-loop
 loop-holds c = record { most = omega arith; room = omega arith; long = refl; there = omega arith; same = refl }
+
+shared-slice-read-input : tie.Need-shared-slice-read-input Inv-loop μ-loop
+shared-slice-read-input c = search needs
+
+slice-write-input : tie.Need-slice-write-input Inv-loop μ-loop
+slice-write-input c = search needs
+
+add-i : tie.Need-add-i Inv-loop μ-loop
+add-i c = search needs
+
+loop-less : tie.Need-loop-less Inv-loop μ-loop
+loop-less c = search needs
 
 loop-again : tie.Need-loop-again Inv-loop μ-loop
 loop-again c = copied-more (c .before .before .loop .inv) (c .before .loop-test .taken)
@@ -62,12 +77,12 @@ copy-spec =
     (tie.spec
     Inv-loop
     μ-loop
-    (λ c κs. search needs)
+    least-requires
     loop-holds
-    (λ c. search needs)
-    (λ c. search needs)
-    (λ c. search needs)
-    (λ c. search needs)
+    shared-slice-read-input
+    slice-write-input
+    add-i
+    loop-less
     loop-again
     same-length
     returns)

@@ -6,6 +6,9 @@ use borrow.Author.Needs.{needs}
 use Rattle.replay_program.proofs.put.Statement.{statement}
 use Rattle.replay_program.proofs.put.Tie as tie
 
+copy-requires : tie.Need-copy-requires
+copy-requires c κs = search needs
+
 returns : tie.Need-returns
 returns c = c .copy .ensures ∙ ap (λ (n : ℕ). take n (c .before .before .before .args .file .now)) (c .before .copy-arg .given .0 .1)
 
@@ -13,5 +16,5 @@ pub put-spec : {M : Type 1} → statement M
 put-spec =
     tie.close
     (tie.spec
-    (λ c κs. search needs)
+    copy-requires
     returns)
