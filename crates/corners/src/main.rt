@@ -1,12 +1,21 @@
 // The program: reads one frame file from standard input and prints its list, or the number by which it is refused.
+// What cannot be read or written leaves a word on standard error.
 use libc::STDIN_FILENO;
 use libc::STDOUT_FILENO;
 use params::Outcome;
 
-// Room for one byte more than the longest frame file has, so that a longer one is seen to be too long.
+// What reading gave: so many bytes, or none that count, since it failed.
+enum Input {
+    Bytes(usize),
+    Failed,
+}
+
 fn main() {
     let mut input = [0u8; 2325];
-    let got = io::read_full(STDIN_FILENO, &mut input);
+    let Input::Bytes(got) = read(&mut input) else {
+        os::fail(b"corners: standard input");
+        return;
+    };
     let mut working = [0u8; 2304];
     let mut row = [0u32; 2304];
     let mut col = [0u32; 2304];
@@ -15,8 +24,9 @@ fn main() {
     let mut response = [0.0f32; 2304];
     let mut scratch = [0.0f32; 2304];
     let mut list = [0.0f32; 768];
-    let outcome = runner::run(
-        &input[..got],
+    let outcome = runner::answer(
+        &input,
+        got,
         &mut working,
         &mut row,
         &mut col,
@@ -26,21 +36,45 @@ fn main() {
         &mut scratch,
         &mut list,
     );
-    print(outcome, &list);
-}
-
-fn print(outcome: Outcome, list: &[f32]) {
-    let many = frame::lines(outcome, list);
-    let mut i = 0;
-    while i < many {
-        print_line(outcome, list, i);
-        i += 1;
+    if !print(outcome, &list) {
+        os::fail(b"corners: standard output");
     }
 }
 
-fn print_line(outcome: Outcome, list: &[f32], i: usize) {
+// Standard input up to its end, or as much as there is room for. Where a read fails, what came before it does not count.
+fn read(input: &mut [u8]) -> Input {
+    let mut done: usize = 0;
+    while done < input.len() {
+        let got = libc::read(STDIN_FILENO, &mut input[done..]);
+        if got < 0 {
+            return Input::Failed;
+        }
+        let more = io::count(got, &input[done..]);
+        if more == 0 {
+            return Input::Bytes(done);
+        }
+        done += more;
+    }
+    Input::Bytes(done)
+}
+
+// Every line, and true; or those before the first that cannot be written, and false.
+fn print(outcome: Outcome, list: &[f32; 768]) -> bool {
+    let many = frame::lines(outcome, list);
+    let mut i = 0;
+    while i < many {
+        if !print_line(outcome, list, i) {
+            return false;
+        }
+        i += 1;
+    }
+    true
+}
+
+// Whether the line was written.
+fn print_line(outcome: Outcome, list: &[f32; 768], i: usize) -> bool {
     let line = frame::line_at(outcome, list, i);
     let bytes = line.bytes;
     let len = line.len;
-    io::write_all(STDOUT_FILENO, &bytes[..len]);
+    io::write_all(STDOUT_FILENO, &bytes[..len])
 }

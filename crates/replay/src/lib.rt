@@ -1,8 +1,13 @@
-// What the programs share that replay a list of vectors: where its numbers and files stand, how values are compared and counted, and what is printed.
+// What the programs share that replay a list of vectors: where its numbers and files stand, how values are compared, and how what agrees is counted.
 // A list is a line of text, then records of big-endian numbers, as tools/judge/README.md says. No read goes past its end.
-ghost use Prim.Native.Nat.{_≤_};
+ghost use mathlib.Core.Path.{_≡_};
+ghost use mathlib.Core.Bool.{cond};
+ghost use Prim.Native.Nat.{_+_, _≤_, min};
+ghost use lib.Dec.{eqb};
 ghost use lib.ListN.{length};
-use libc::STDOUT_FILENO;
+ghost use lib.Ieee.{binary32, toBits, ofBits};
+ghost use Rattle.replay.specs.Vectors.{zeros, byteAt, wordAt, Part, afterLine, floatOf, floatAt, entryAt};
+ghost use Rattle.replay.specs.Tallies.{sum, differs, none, counted};
 
 // What stands for a byte or a word past the end: none has this value.
 const NO_BYTE: u64 = 256;
@@ -12,26 +17,29 @@ const NO_WORD: u64 = 4294967296;
 // No count goes over this.
 const MOST: usize = 4294967296;
 
-// Room for a whole list. A call's result is a value of which a proof sees the length alone, and not what fills it.
-pub fn room() -> [u8; 1048576] {
+// Room for a whole list, with zeros in it. A caller's proof sees the array's length, and not its million bytes.
+pub fn room() -> [u8; 1048576]
+    ensures { λ r. ⌜ r ≡ zeros 1048576 ⌝ }
+{
     [0; 1048576]
 }
 
 fn wide(b: u8) -> u64
-    ensures { λ r. ⌜ r ≤ 255 ⌝ }
+    ensures { λ r. ⌜ (r ≡ b) × (r ≤ 255) ⌝ }
 {
     b as u64
 }
 
 pub fn byte(s: &[u8], at: usize) -> u64
-    ensures { λ r. ⌜ r ≤ 256 ⌝ }
+    ensures { λ r. ⌜ r ≡ byteAt (now (s .entry)) at ⌝ }
 {
     if at < s.len() { wide(s[at]) } else { NO_BYTE }
 }
 
 // The four bytes at a place as a number, the highest first.
 pub fn word(s: &[u8], at: usize) -> u64
-    ensures { λ r. ⌜ r ≤ 4294967296 ⌝ }
+    ensures value { λ r. ⌜ r ≡ wordAt (now (s .entry)) at ⌝ }
+    ensures most { λ r. ⌜ r ≤ 4294967296 ⌝ }
 {
     if at > s.len() {
         return NO_WORD;
@@ -44,7 +52,7 @@ pub fn word(s: &[u8], at: usize) -> u64
 
 // The place n bytes further, and the end at most.
 pub fn skip(s: &[u8], at: usize, n: usize) -> usize
-    ensures { λ r. ⌜ r ≤ length (now (s .entry)) ⌝ }
+    ensures { λ r. ⌜ r ≡ min (at + n) (length (now (s .entry))) ⌝ }
 {
     if at > s.len() {
         return s.len();
@@ -56,7 +64,9 @@ pub fn skip(s: &[u8], at: usize, n: usize) -> usize
 }
 
 // The bytes from a place to another, and none where that is no part.
-pub fn part(s: &[u8], from: usize, to: usize) -> &[u8] {
+pub fn part(s: &[u8], from: usize, to: usize) -> &[u8]
+    ensures { λ r. ⌜ Part (s .entry) from to r ⌝ }
+{
     let n = s.len();
     if to > n {
         return &s[n..];
@@ -69,7 +79,7 @@ pub fn part(s: &[u8], from: usize, to: usize) -> &[u8] {
 
 // The place after the first line.
 pub fn after_line(s: &[u8]) -> usize
-    ensures { λ r. ⌜ r ≤ length (now (s .entry)) ⌝ }
+    ensures { λ r. ⌜ r ≡ afterLine (now (s .entry)) ⌝ }
 {
     let mut i = 0;
     while i < s.len() {
@@ -83,7 +93,8 @@ pub fn after_line(s: &[u8]) -> usize
 
 // The bits of a float. A NaN's are 7FC00000.
 pub fn bits(x: f32) -> u64
-    ensures { λ r. ⌜ r ≤ 4294967295 ⌝ }
+    ensures value { λ r. ⌜ r ≡ toBits binary32 x ⌝ }
+    ensures most { λ r. ⌜ r ≤ 4294967295 ⌝ }
 {
     if x != x {
         return 2143289344;
@@ -92,20 +103,24 @@ pub fn bits(x: f32) -> u64
 }
 
 fn wide32(x: u32) -> u64
-    ensures { λ r. ⌜ r ≤ 4294967295 ⌝ }
+    ensures { λ r. ⌜ (r ≡ x) × (r ≤ 4294967295) ⌝ }
 {
     x as u64
 }
 
 // The float of a bit pattern, and a NaN for a NaN's or for no word.
-pub fn float(bits: u64) -> f32 {
+pub fn float(bits: u64) -> f32
+    ensures { λ r. ⌜ r ≡ floatOf bits ⌝ }
+{
     if bits < NO_WORD {
         return float32(bits as u32);
     }
     0.0 / 0.0
 }
 
-fn float32(bits: u32) -> f32 {
+fn float32(bits: u32) -> f32
+    ensures { λ r. ⌜ r ≡ ofBits binary32 bits ⌝ }
+{
     if bits % 0x8000_0000 <= 0x7f80_0000 {
         return f32::from_bits(bits);
     }
@@ -113,24 +128,28 @@ fn float32(bits: u32) -> f32 {
 }
 
 // An entry's bits, or no word where there is none.
-pub fn float_at(t: &[f32], i: usize) -> u64 {
+pub fn float_at(t: &[f32], i: usize) -> u64
+    ensures { λ r. ⌜ r ≡ floatAt (now (t .entry)) i ⌝ }
+{
     if i < t.len() { bits(t[i]) } else { NO_WORD }
 }
 
-pub fn word_at(t: &[u32], i: usize) -> u64 {
+pub fn word_at(t: &[u32], i: usize) -> u64
+    ensures { λ r. ⌜ r ≡ entryAt (now (t .entry)) i ⌝ }
+{
     if i < t.len() { wide32(t[i]) } else { NO_WORD }
 }
 
 // 1 where two numbers differ.
 pub fn differ(a: u64, b: u64) -> usize
-    ensures { λ r. ⌜ r ≤ 1 ⌝ }
+    ensures { λ r. ⌜ r ≡ differs a b ⌝ }
 {
     if a == b { 0 } else { 1 }
 }
 
 // A sum of two counts.
 pub fn plus(a: usize, b: usize) -> usize
-    ensures { λ r. ⌜ r ≤ 4294967296 ⌝ }
+    ensures { λ r. ⌜ r ≡ sum a b ⌝ }
 {
     if a > MOST {
         return MOST;
@@ -148,7 +167,9 @@ pub struct Tally {
     pub first: usize,
 }
 
-pub fn nothing_yet() -> Tally {
+pub fn nothing_yet() -> Tally
+    ensures { λ r. ⌜ r ≡ none ⌝ }
+{
     Tally {
         records: 0,
         wrong: 0,
@@ -157,37 +178,26 @@ pub fn nothing_yet() -> Tally {
 }
 
 // One record more, in which that many things disagree.
-pub fn with(t: Tally, wrong: usize) -> Tally {
-    let n = t.records;
+pub fn with(t: Tally, wrong: usize) -> Tally
+    ensures { λ r. ⌜ r ≡ counted t wrong ⌝ }
+{
     if wrong == 0 {
         return Tally {
-            records: plus(n, 1),
+            records: plus(t.records, 1),
             wrong: t.wrong,
             first: t.first,
         };
     }
-    let first = if t.wrong == 0 { n } else { t.first };
     Tally {
-        records: plus(n, 1),
+        records: plus(t.records, 1),
         wrong: plus(t.wrong, 1),
-        first,
+        first: earliest(t),
     }
 }
 
-// A line with a name and a number.
-pub fn say(name: &[u8], n: usize) {
-    io::write_all(STDOUT_FILENO, name);
-    io::write_all(STDOUT_FILENO, b": ");
-    io::print_decimal(STDOUT_FILENO, n as u64);
-    io::write_all(STDOUT_FILENO, b"\n");
-}
-
-// The list's own line, the number of records, and how many disagree.
-pub fn report(s: &[u8], t: Tally) {
-    io::write_all(STDOUT_FILENO, part(s, 0, after_line(s)));
-    say(b"records", t.records);
-    say(b"records that disagree", t.wrong);
-    if t.wrong > 0 {
-        say(b"number of the first that disagrees, from 0", t.first);
-    }
+// The number of the first record that disagrees, where this one does.
+fn earliest(t: Tally) -> usize
+    ensures { λ r. ⌜ r ≡ cond (eqb (t .wrong) 0) (t .records) (t .first) ⌝ }
+{
+    if t.wrong == 0 { t.records } else { t.first }
 }

@@ -1,7 +1,7 @@
 // Replays frames through the finder and compares the lists: count, strengths and order to the bit in both modes, places to the bit in parabolic mode.
 // In Gaussian mode the original's logarithm is the platform's: of those places it counts which agree to the bit, which lie within 0.001, and which beyond.
-ghost use Prim.Native.Nat.{_≤_};
 use libc::STDIN_FILENO;
+use libc::STDOUT_FILENO;
 use params::Outcome;
 use replay::Tally;
 
@@ -65,10 +65,29 @@ fn replayed(s: &[u8]) {
 }
 
 fn report(s: &[u8], tally: Tally, all: Compared) {
-    replay::report(s, tally);
-    replay::say(b"Gaussian places equal to the bit", all.equal);
-    replay::say(b"Gaussian places within 0.001", all.near);
-    replay::say(b"Gaussian places beyond", all.beyond);
+    head(s, tally);
+    say(b"Gaussian places equal to the bit", all.equal);
+    say(b"Gaussian places within 0.001", all.near);
+    say(b"Gaussian places beyond", all.beyond);
+}
+
+// The list's own line, the number of records, and how many disagree.
+fn head(s: &[u8], tally: Tally) {
+    let end = replay::after_line(s);
+    io::write_all(STDOUT_FILENO, replay::part(s, 0, end));
+    say(b"records", tally.records);
+    say(b"records that disagree", tally.wrong);
+    if tally.wrong > 0 {
+        say(b"number of the first that disagrees, from 0", tally.first);
+    }
+}
+
+// A line with a name and a number.
+fn say(name: &[u8], n: usize) {
+    io::write_all(STDOUT_FILENO, name);
+    io::write_all(STDOUT_FILENO, b": ");
+    io::print_decimal(STDOUT_FILENO, n as u64);
+    io::write_all(STDOUT_FILENO, b"\n");
 }
 
 // A record: the length of a file and the file; then its list.

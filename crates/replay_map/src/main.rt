@@ -1,7 +1,7 @@
 // Replays frames through the map's entry and compares working image, tables, response and scratch to the bit.
-ghost use Prim.Native.Nat.{_≤_};
 use frame::Reading;
 use libc::STDIN_FILENO;
+use libc::STDOUT_FILENO;
 use replay::Tally;
 use response::Mapped;
 
@@ -45,8 +45,27 @@ fn replayed(s: &[u8]) {
 }
 
 fn report(s: &[u8], tally: Tally, values: usize) {
-    replay::report(s, tally);
-    replay::say(b"values compared", values);
+    head(s, tally);
+    say(b"values compared", values);
+}
+
+// The list's own line, the number of records, and how many disagree.
+fn head(s: &[u8], tally: Tally) {
+    let end = replay::after_line(s);
+    io::write_all(STDOUT_FILENO, replay::part(s, 0, end));
+    say(b"records", tally.records);
+    say(b"records that disagree", tally.wrong);
+    if tally.wrong > 0 {
+        say(b"number of the first that disagrees, from 0", tally.first);
+    }
+}
+
+// A line with a name and a number.
+fn say(name: &[u8], n: usize) {
+    io::write_all(STDOUT_FILENO, name);
+    io::write_all(STDOUT_FILENO, b": ");
+    io::print_decimal(STDOUT_FILENO, n as u64);
+    io::write_all(STDOUT_FILENO, b"\n");
 }
 
 // A record: the length of a file and the file; then what its map is.

@@ -1,7 +1,10 @@
 // Replays frame files through all that the program `corners` does and compares the whole of what is printed.
 // Places of a list in Gaussian mode may differ, since the original's logarithm is the platform's: they are counted.
-ghost use Prim.Native.Nat.{_≤_};
+ghost use mathlib.Core.Path.{_≡_};
+ghost use Prim.Native.Nat.{min};
+ghost use lib.ListN.{length, take};
 use libc::STDIN_FILENO;
+use libc::STDOUT_FILENO;
 use params::Outcome;
 use replay::Tally;
 
@@ -56,10 +59,29 @@ fn whole(wrong: usize, places: usize) -> usize {
 }
 
 fn report(s: &[u8], tally: Tally, exact: usize, lists: usize, places: usize) {
-    replay::report(s, tally);
-    replay::say(b"records that agree to the bit", exact);
-    replay::say(b"Gaussian lists in which places differ", lists);
-    replay::say(b"corners whose places differ there", places);
+    head(s, tally);
+    say(b"records that agree to the bit", exact);
+    say(b"Gaussian lists in which places differ", lists);
+    say(b"corners whose places differ there", places);
+}
+
+// The list's own line, the number of records, and how many disagree.
+fn head(s: &[u8], tally: Tally) {
+    let end = replay::after_line(s);
+    io::write_all(STDOUT_FILENO, replay::part(s, 0, end));
+    say(b"records", tally.records);
+    say(b"records that disagree", tally.wrong);
+    if tally.wrong > 0 {
+        say(b"number of the first that disagrees, from 0", tally.first);
+    }
+}
+
+// A line with a name and a number.
+fn say(name: &[u8], n: usize) {
+    io::write_all(STDOUT_FILENO, name);
+    io::write_all(STDOUT_FILENO, b": ");
+    io::print_decimal(STDOUT_FILENO, n as u64);
+    io::write_all(STDOUT_FILENO, b"\n");
 }
 
 // A record: the length of a file and the file, the length of a text and the text.
@@ -76,8 +98,10 @@ fn record(s: &[u8], at: usize) -> Compared {
     }
 }
 
-// The program's buffers, lent as the program lends them.
+// What the program answers to a file, over buffers as the program declares them.
 fn answered(file: &[u8], text: &[u8]) -> Compared {
+    let mut input = [0u8; 2325];
+    let got = put(file, &mut input);
     let mut working = [0u8; 2304];
     let mut row = [0u32; 2304];
     let mut col = [0u32; 2304];
@@ -86,8 +110,9 @@ fn answered(file: &[u8], text: &[u8]) -> Compared {
     let mut response = [0.0f32; 2304];
     let mut scratch = [0.0f32; 2304];
     let mut list = [0.0f32; 768];
-    let outcome = runner::run(
-        file,
+    let outcome = runner::answer(
+        &input,
+        got,
         &mut working,
         &mut row,
         &mut col,
@@ -100,12 +125,37 @@ fn answered(file: &[u8], text: &[u8]) -> Compared {
     printed(outcome, &list, text, gaussian(file))
 }
 
+// Puts as much of a file into the array as reading it would, and answers how many bytes that is.
+fn put(file: &[u8], input: &mut [u8; 2325]) -> usize
+    ensures { λ r. ⌜ take r (now (input .exit)) ≡ take 2325 (now (file .entry)) ⌝ }
+{
+    copy(file, input)
+}
+
+fn copy(file: &[u8], input: &mut [u8]) -> usize
+    ensures { λ r. ⌜ take r (now (input .exit)) ≡ take (length (now (input .entry))) (now (file .entry)) ⌝ }
+{
+    let n = least(file.len(), input.len());
+    let mut i = 0;
+    while i < n {
+        input[i] = file[i];
+        i += 1;
+    }
+    n
+}
+
+fn least(a: usize, b: usize) -> usize
+    ensures { λ r. ⌜ r ≡ min a b ⌝ }
+{
+    if a < b { a } else { b }
+}
+
 fn gaussian(file: &[u8]) -> bool {
     replay::byte(file, 12) == 1
 }
 
 // Every line, and that the text ends with the last.
-fn printed(outcome: Outcome, list: &[f32], text: &[u8], gaussian: bool) -> Compared {
+fn printed(outcome: Outcome, list: &[f32; 768], text: &[u8], gaussian: bool) -> Compared {
     let many = frame::lines(outcome, list);
     let mut wrong: usize = 0;
     let mut places: usize = 0;
@@ -128,7 +178,7 @@ fn printed(outcome: Outcome, list: &[f32], text: &[u8], gaussian: bool) -> Compa
 // One line: to the bit, or in Gaussian mode a corner's strength.
 fn line(
     outcome: Outcome,
-    list: &[f32],
+    list: &[f32; 768],
     i: usize,
     text: &[u8],
     at: usize,

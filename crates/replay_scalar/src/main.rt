@@ -1,6 +1,6 @@
 // Replays the vectors of its input: how many roots agree, how many logarithms, and how many of those are within 2^-19 of L.
 // The input is as tools/scalar_vectors.py says: a line of text, then records of big-endian numbers.
-ghost use Prim.Native.Nat.{_<_, _≤_};
+ghost use Prim.Native.Nat.{_≤_};
 use libc::STDIN_FILENO;
 use libc::STDOUT_FILENO;
 use scalar::Log;
@@ -31,55 +31,44 @@ struct Tally {
 fn main() {
     let mut input = io::large_buffer();
     let got = io::read_full(STDIN_FILENO, &mut input);
-    let roots = after_line(&input[..got]);
-    let many_roots = count(&input[..got], roots);
-    let logs = roots + 4 + 8 * many_roots;
-    let many_logs = count(&input[..got], logs);
+    replayed(&input[..got]);
+}
+
+// The roots, then the logarithms, each after the number of them.
+fn replayed(s: &[u8]) {
+    let roots = replay::after_line(s);
+    let many_roots = count(s, roots);
+    let first_root = replay::skip(s, roots, 4);
+    let logs = replay::skip(s, first_root, 8 * many_roots);
+    let many_logs = count(s, logs);
+    let first_log = replay::skip(s, logs, 4);
     report(
         b"roots that agree:",
         many_roots,
-        counted(&input[..got], Kind::Root, roots + 4, many_roots),
+        counted(s, Kind::Root, first_root, many_roots),
     );
     report(
         b"logarithms that agree:",
         many_logs,
-        counted(&input[..got], Kind::Log, logs + 4, many_logs),
+        counted(s, Kind::Log, first_log, many_logs),
     );
     report(
         b"logarithms within 2^-19 of L:",
         many_logs,
-        counted(&input[..got], Kind::Near, logs + 4, many_logs),
+        counted(s, Kind::Near, first_log, many_logs),
     );
-}
-
-// The place after the first line feed.
-fn after_line(s: &[u8]) -> usize
-    ensures { λ r. ⌜ r ≤ 4096 ⌝ }
-{
-    let mut i = 0;
-    while i < 4095 {
-        if byte(s, i) == 10 {
-            return i + 1;
-        }
-        i += 1;
-    }
-    i
 }
 
 // The number of records that stands at a place, at most 4096.
 fn count(s: &[u8], at: usize) -> usize
-    requires { ⌜ at ≤ 65536 ⌝ }
     ensures { λ r. ⌜ r ≤ 4096 ⌝ }
 {
-    let n = word(s, at);
+    let n = replay::word(s, at);
     if n <= 4096 { n as usize } else { 0 }
 }
 
 // Compares as many records of one kind as there are, from a place on.
-fn counted(s: &[u8], kind: Kind, from: usize, many: usize) -> Tally
-    requires { ⌜ from ≤ 65536 ⌝ }
-    requires { ⌜ many ≤ 4096 ⌝ }
-{
+fn counted(s: &[u8], kind: Kind, from: usize, many: usize) -> Tally {
     let size = size_of(kind);
     let mut agree: usize = 0;
     let mut first = many;
@@ -87,11 +76,11 @@ fn counted(s: &[u8], kind: Kind, from: usize, many: usize) -> Tally
     let mut i: usize = 0;
     while i < many {
         if agrees(s, kind, at) {
-            agree += 1;
+            agree = replay::plus(agree, 1);
         } else {
             first = less(first, i);
         }
-        at += size;
+        at = replay::skip(s, at, size);
         i += 1;
     }
     Tally { agree, first }
@@ -101,9 +90,7 @@ fn less(a: usize, b: usize) -> usize {
     if a <= b { a } else { b }
 }
 
-fn size_of(kind: Kind) -> usize
-    ensures { λ r. ⌜ r ≤ 16 ⌝ }
-{
+fn size_of(kind: Kind) -> usize {
     match kind {
         Kind::Root => 8,
         Kind::Log => 16,
@@ -111,22 +98,21 @@ fn size_of(kind: Kind) -> usize
     }
 }
 
-fn agrees(s: &[u8], kind: Kind, at: usize) -> bool
-    requires { ⌜ at ≤ 262144 ⌝ }
-{
-    let x = word(s, at);
-    let expected = word(s, at + 4);
+fn agrees(s: &[u8], kind: Kind, at: usize) -> bool {
+    let x = replay::word(s, at);
+    let expected = replay::word(s, replay::skip(s, at, 4));
+    let high = replay::word(s, replay::skip(s, at, 8));
+    let low = replay::word(s, replay::skip(s, at, 12));
     match kind {
         Kind::Root => root_bits(x) == expected,
         Kind::Log => log_bits(x) == expected,
-        Kind::Near => near(log_bits(x), expected, word(s, at + 8), word(s, at + 12)),
+        Kind::Near => near(log_bits(x), expected, high, low),
     }
 }
 
 // Whether the logarithm with this pattern is within 2^-19 of L, which stands in two halves, in units of 2^-40: the top bit is its sign, as of a pattern.
 fn near(bits: u64, expected: u64, high: u64, low: u64) -> bool
-    requires { ⌜ high < 4294967296 ⌝ }
-    requires { ⌜ low < 4294967296 ⌝ }
+    requires { ⌜ low ≤ 4294967296 ⌝ }
 {
     if bits == OUTSIDE || expected == OUTSIDE {
         return bits == expected;
@@ -168,63 +154,18 @@ fn units(bits: u64) -> u64 {
 }
 
 // The pattern of the root, or of the logarithm, of the number with the pattern x.
-fn root_bits(x: u64) -> u64
-    requires { ⌜ x < 4294967296 ⌝ }
-{
-    match scalar::sqrt(float_of(x as u32)) {
-        Root::Value(y) => bits_of(y),
+fn root_bits(x: u64) -> u64 {
+    match scalar::sqrt(replay::float(x)) {
+        Root::Value(y) => replay::bits(y),
         Root::Outside => OUTSIDE,
     }
 }
 
-fn log_bits(x: u64) -> u64
-    requires { ⌜ x < 4294967296 ⌝ }
-{
-    match scalar::ln(float_of(x as u32)) {
-        Log::Value(y) => bits_of(y),
+fn log_bits(x: u64) -> u64 {
+    match scalar::ln(replay::float(x)) {
+        Log::Value(y) => replay::bits(y),
         Log::Outside => OUTSIDE,
     }
-}
-
-// The number with the pattern x; every NaN's pattern gives one NaN.
-fn float_of(x: u32) -> f32 {
-    if x % 2147483648 <= 2139095040 {
-        f32::from_bits(x)
-    } else {
-        0.0 / 0.0
-    }
-}
-
-fn bits_of(y: f32) -> u64 {
-    if y != y {
-        OUTSIDE
-    } else {
-        word_of(f32::to_bits(y))
-    }
-}
-
-fn word_of(x: u32) -> u64 {
-    x as u64
-}
-
-// The four bytes at a place as a number, and 0 for a byte past the end.
-fn word(s: &[u8], at: usize) -> u64
-    requires { ⌜ at ≤ 1048576 ⌝ }
-    ensures { λ r. ⌜ r < 4294967296 ⌝ }
-{
-    byte(s, at) * 16777216 + byte(s, at + 1) * 65536 + byte(s, at + 2) * 256 + byte(s, at + 3)
-}
-
-fn byte(s: &[u8], at: usize) -> u64
-    ensures { λ r. ⌜ r < 256 ⌝ }
-{
-    if at < s.len() { wide(s[at]) } else { 0 }
-}
-
-fn wide(b: u8) -> u64
-    ensures { λ r. ⌜ r < 256 ⌝ }
-{
-    b as u64
 }
 
 // A line for a kind of vector: how many agree, of how many, and where the first does not, counted from 0.

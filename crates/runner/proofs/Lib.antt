@@ -1,3 +1,4 @@
 -- What the proof of the function cites, and what a program's proofs cite of a printed line.
 pub mod Cases
 pub mod Within
+pub mod SameLines

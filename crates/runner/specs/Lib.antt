@@ -1,2 +1,3 @@
--- What the program answers to the bytes of a frame file.
+-- What the program answers to the bytes of a frame file, and what it prints.
 pub mod Run
+pub mod Program

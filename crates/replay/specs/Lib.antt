@@ -1,0 +1,3 @@
+-- What the replay programs read, compare and count.
+pub mod Vectors
+pub mod Tallies
