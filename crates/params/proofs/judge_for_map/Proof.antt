@@ -1,13 +1,12 @@
 -- `params::judge_for_map` meets its contract: the stages in their order, each from what its judge ensures. Assumes nothing.
 use mathlib.Core.Path.{_≡_, ap, _∙_}
 use borrow.Author.Needs.{needs}
-use Rattle.params.specs.Answers.{numberOf}
-use Rattle.params.specs.Refusals.{pixelsOf, sizeRefusal, roomRefusal, mapRefusalOf}
+use Rattle.params.specs.Refusals.{pixelsOf, roomRefusal, mapRefusalOf}
 use Rattle.params.specs.Accepted.{SizesPass, stage-refuses, stage-passes, stages-joined, stage-zero, sizes-pass}
 use Rattle.params.proofs.judge_for_map.Statement.{statement}
 use Rattle.params.proofs.judge_for_map.Tie as tie
 
--- from where the size is judged, and from where it has passed
+-- the way back: from where the size has passed to its judge and to the start, and from the end to there
 abbrev sized : tie.Else1 → tie.After-judge-size
 sized c = c .before .before
 
@@ -25,8 +24,9 @@ sizes c =
     (stage-zero _ (sized c .judge-size .ensures) (c .before .number .ensures) (c .if1 .left))
 
 -- the last stage is asked with W·H
-room : (c : tie.After-or-else) → c .before .judge-room .result
-    ≡ roomRefusal (pixelsOf (start (passed c) .args .width) (start (passed c) .args .height) (start (passed c) .args .p .«image_upsample»)) (start (passed c) .args .room)
+room : (c : tie.After-or-else) →
+    let o = start (passed c) .args in
+    c .before .judge-room .result ≡ roomRefusal (pixelsOf (o .width) (o .height) (o .p .«image_upsample»)) (o .room)
 room c = c .before .judge-room .ensures ∙ ap (λ n. roomRefusal n (start (passed c) .args .room)) (c .before .before .pixels .ensures)
 
 judge-size-requires : tie.Need-judge-size-requires

@@ -1,7 +1,7 @@
 -- `Working::to_input` meets its contract: the factor that is used is 1, or it is 2. Assumes nothing.
 use mathlib.Core.Path.{_≡_, sym, _∙_}
 use Prim.Native.Nat.{ℕ}
-use lib.Ieee.{Float, binary32, ofBits, mul}
+use lib.Ieee.{binary32, ofBits, mul}
 use borrow.Author.Needs.{needs}
 use borrow.Author.Tests.{eq-eqb, ne-eqb}
 use Rattle.params.specs.declared.Working.{Working}
