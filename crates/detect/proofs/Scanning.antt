@@ -6,7 +6,7 @@ use Prim.Native.Nat.{ℕ, _+_, _-_, _*_, _/_, _≤_, _<_, _^_}
 use native.Mathlib.Omega.{arith}
 use mathlib.Core.List.{List, [], _∷_}
 use native.Mathlib.Nat.{zero-mul, mul-zero, div-add-mod'}
-use lib.ListN.{length, getD, set, take, drop, length-take, length-drop}
+use lib.ListN.{length, getD, take, drop, length-take, length-drop}
 use lib.Seq.{sets, length-take-le, getD-take, getD-drop}
 use lib.Dec.{T, leb, le→leb}
 use lib.IntN.{pos}
@@ -16,7 +16,7 @@ use Rattle.grid.specs.Fold.{fold, fold-ext}
 use Rattle.grid.specs.Plane.{plane}
 use Rattle.grid.specs.Each.{keep-none}
 use Rattle.grid.specs.Rect.{Place, place, rect, any-in, Across, across-none, across-more, across-skip, down-more, Down, down-none, down-all, length-rect}
-use Rattle.grid.specs.Over.{written, Listed, listed-none, Onward, onward-none, onward-no, onward-full, onward-put, sets-three}
+use Rattle.grid.specs.Over.{written, Listed, listed-none, Onward, onward-none, onward-no, onward-full, onward-put}
 use Rattle.params.specs.declared.RadonDetectorParams.{RadonDetectorParams}
 use Rattle.params.specs.Settings.{rayOf}
 use Rattle.detect.specs.declared.saddle.SaddleTest.{SaddleTest}
@@ -76,19 +76,19 @@ unfolding numbers
 numbers-long s f p = refl
 
 module _ (s : RadonDetectorParams) (l r : List Float) (n w : ℕ) {h x y : ℕ} (m : Room w h 1 x y (length r)) where
-  pub stored : {fx fy a b : Float}
+  pub stored : {fx fy a b : Float} {new : List Float}
       → fx ≡ fitOf (s .«peak_fit») (entry r (y * w + x - 1)) (entry r (y * w + x)) (entry r (y * w + x + 1))
       → fy ≡ fitOf (s .«peak_fit») (entry r (y * w + x - w)) (entry r (y * w + x)) (entry r (y * w + x + w))
       → a ≡ inputAt (s .«image_upsample») x fx → b ≡ inputAt (s .«image_upsample») y fy
-      → set (set (set l (3 * n) a) (3 * n + 1) b) (3 * n + 2) (entry r (y * w + x)) ≡ sets l (stride * n) (numbers s (value r w) (place x y))
+      → new ≡ sets l (stride * n) (a ∷ b ∷ entry r (y * w + x) ∷ []) → new ≡ sets l (stride * n) (numbers s (value r w) (place x y))
   unfolding numbers
-  stored {fx} {fy} {a} {b} e1 e2 e3 e4 =
+  stored e1 e2 e3 e4 all =
       let k = cross m in
       let i : y * w + x - 1 ≡ y * w + (x - 1) = omega arith in
       let j : y * w + x + 1 ≡ y * w + (x + 1) = omega arith in
       let u : y * w + x - w ≡ (y - 1) * w + x = omega arith in
       let d : y * w + x + w ≡ (y + 1) * w + x = omega arith in
-      rw (sets-three, e3, e4, e1, e2, i, j, u, d)
+      rw (e3, e4, e1, e2, i, j, u, d) at all
 
 -- ---- a run of places that cannot be kept
 

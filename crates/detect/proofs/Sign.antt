@@ -1,18 +1,20 @@
--- A product with |x| is compared as one with `signless x` is, though the two factors differ at -0. Assumes nothing.
+-- A product with |x| is compared as one with `signless x` is, though the two factors differ at -0; and so the verdict follows from the code's two tests.
+-- Assumes nothing.
 use mathlib.Core.Path.{_≡_, refl, sym, _∙_}
-use mathlib.Core.Bool.{Bool, true, false, cond, _&&_, _||_}
+use mathlib.Core.Bool.{Bool, true, false, cond, _&&_, _||_, true≢false}
 use Prim.Native.Nat.{ℕ, _+_, _*_}
 use native.Mathlib.Nat.{zero-add, zero-mul, mul-pos}
 use native.Mathlib.Omega.{arith}
 use borrow.Author.Tests.{ltb-false, le-ltb}
 use lib.Dec.{ltb, eqb}
 use lib.IntN.{ℤ, pos}
-use lib.Ieee.{Float, nan, inf, fin, binary32, up, down, ofBits, unlike, neg, add, mul, lt, eq, le}
+use lib.Ieee.{Float, nan, inf, fin, binary32, up, down, ofBits, ofInt, unlike, neg, add, sub, mul, lt, eq, le}
 use lib.Ieee.Fits.{down-pos, up-pos}
 use Rattle.float.specs.Values.{f1}
 use Rattle.float.specs.Order.{no-factor}
 use Rattle.float.specs.Product.{round-zero}
-use Rattle.detect.specs.Saddle.{ratio, magnitude}
+use Rattle.detect.specs.declared.saddle.Saddle.the-variants.{Yes, Flat, Curved}
+use Rattle.detect.specs.Saddle.{ratio, magnitude, verdict}
 use Rattle.detect.specs.Around.{signless}
 
 -- ---- -0 is at most what +0 is at most
@@ -62,3 +64,33 @@ module _ (n : ℕ) (d : ℤ) (y : Float) where
 pub curvature : (tr y : Float) {s : Float} {b : Bool} → s ≡ signless tr → le (mul binary32 s (add binary32 f1 ratio)) y ≡ b → le (mul binary32 (magnitude tr) (add binary32 f1 ratio)) y ≡ b
 unfolding add ofBits
 curvature tr y e h = sym (signless-le _ _ y tr) ∙ (rw e at h)
+
+-- ---- the verdict, from what the code's two tests tell of s, the trace without its sign
+
+module _ (k : ℕ) (tr spread : Float) {s : Float} (is : s ≡ signless tr) where
+  abbrev steep : Bool
+  steep = le f1 (mul binary32 spread (ofInt binary32 (pos (k * k))))
+
+  abbrev even : Bool
+  even = le (mul binary32 s (add binary32 f1 ratio)) (mul binary32 spread (sub binary32 f1 ratio))
+
+  verdict-is : verdict k tr spread ≡ cond steep (cond even Yes Curved) Flat
+  unfolding verdict
+  verdict-is = rw (curvature tr _ is refl)
+
+  pub told-yes : (steep && even) ≡ true → Yes ≡ verdict k tr spread
+  told-yes e = rw verdict-is (go steep even e)
+    where
+      go : (a b : Bool) → (a && b) ≡ true → Yes ≡ cond a (cond b Yes Curved) Flat
+      go true b e = rw e
+      go false b e = absurd (true≢false (sym e))
+
+  pub told-curved : (steep && even) ≡ false → steep ≡ true → Curved ≡ verdict k tr spread
+  told-curved n e = rw verdict-is (go steep even n e)
+    where
+      go : (a b : Bool) → (a && b) ≡ false → a ≡ true → Curved ≡ cond a (cond b Yes Curved) Flat
+      go true b n e = rw n
+      go false b n e = absurd (true≢false (sym e))
+
+  pub told-flat : steep ≡ false → Flat ≡ verdict k tr spread
+  told-flat e = rw (verdict-is, e)

@@ -11,9 +11,8 @@ use params::Outcome;
 use params::RadonDetectorParams;
 use peaks::find_peaks;
 ghost use mathlib.Core.Path.{_≡_};
-ghost use Prim.Native.Nat.{_/_, min};
+ghost use Prim.Native.Nat.{min};
 ghost use lib.ListN.{length};
-ghost use Rattle.detect.specs.Corners.{stride};
 ghost use Rattle.detect.specs.Detected.{workingRefusal, peaksRefusal, fullOr, outcomeOf, listOf};
 
 // Twice the input's longest side.
@@ -46,14 +45,9 @@ fn judge(w: usize, h: usize, params: RadonDetectorParams, room: usize) -> Answer
         return size;
     }
     let map = params::judge_map(params);
-    if map.number() != 0 {
-        return map;
-    }
     let list = params::judge_list(params);
-    if list.number() != 0 {
-        return list;
-    }
-    params::judge_room(w * h, room)
+    let lent = params::judge_room(w * h, room);
+    map.or_else(list.or_else(lent))
 }
 
 fn shorter(a: usize, b: usize) -> usize
@@ -62,11 +56,11 @@ fn shorter(a: usize, b: usize) -> usize
     if a < b { a } else { b }
 }
 
-// Whether all of the corners found have room in a list of `len` numbers.
-fn full_or(found: usize, len: usize) -> Answer
-    ensures { λ r. ⌜ r ≡ fullOr found (len / stride) ⌝ }
+// Whether as many corners were stored as found.
+fn full_or(found: usize, stored: usize) -> Answer
+    ensures { λ r. ⌜ r ≡ fullOr found stored ⌝ }
 {
-    if found <= len / 3 {
+    if found <= stored {
         return Answer::Complete;
     }
     Answer::ListFull
@@ -88,10 +82,11 @@ pub fn detect_peaks_from_radon(
     if refusal.number() != 0 {
         return Outcome::refusal(refusal);
     }
-    let count = find_peaks(response, image, w, h, params, list);
+    let found = find_peaks(response, image, w, h, params, list);
+    let stored = shorter(found, list.len() / 3);
     Outcome {
-        answer: full_or(count, list.len()),
-        count,
+        answer: full_or(found, stored),
+        count: found,
         w,
         h,
     }

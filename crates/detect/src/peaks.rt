@@ -6,11 +6,13 @@ use super::saddle::SaddleTest;
 use super::saddle::new;
 use super::verdict::is_kept;
 use super::verdict::judge_at;
+use params::Input;
 use params::PeakFitMode;
 use params::RadonDetectorParams;
 use params::Working;
 ghost use mathlib.Core.Path.{_≡_};
 ghost use Prim.Native.Nat.{_+_, _-_, _*_, _/_, _<_, _≤_};
+ghost use mathlib.Core.List.{[], _∷_};
 ghost use lib.ListN.{length};
 ghost use lib.Seq.{sets};
 ghost use Rattle.grid.specs.Rect.{place};
@@ -39,14 +41,25 @@ fn fitted(resp: &[f32], c: usize, step: usize, mode: PeakFitMode) -> f32
 }
 
 // A pixel and its offset, in the input image.
-fn input_at(up: u32, c: usize, offset: f32) -> f32
+fn input_at(up: u32, c: usize, offset: f32) -> Input
     requires { ⌜ c ≤ 8192 ⌝ }
-    ensures { λ r. ⌜ r ≡ inputAt up c offset ⌝ }
+    ensures { λ r. ⌜ r .0 ≡ inputAt up c offset ⌝ }
 {
-    Working(c as f32 + offset).to_input(up).0
+    Working(c as f32 + offset).to_input(up)
 }
 
-// The numbers of corner n, stored in their place.
+// Three numbers as corner n of the list. Its place is in input pixels: a working coordinate is not taken.
+fn store(list: &mut [f32], n: usize, x: Input, y: Input, strength: f32)
+    requires { ⌜ n < length (now list) / stride ⌝ }
+    ensures { λ _. ⌜ now (list .exit) ≡ sets (now (list .entry)) (stride * n) (x .0 ∷ y .0 ∷ strength ∷ []) ⌝ }
+{
+    let i = 3 * n;
+    list[i] = x.0;
+    list[i + 1] = y.0;
+    list[i + 2] = strength;
+}
+
+// The corner at (x, y) as the n-th of the list.
 fn put_corner(
     list: &mut [f32],
     n: usize,
@@ -65,10 +78,7 @@ fn put_corner(
     let fx = fitted(resp, c, 1, mode);
     let fy = fitted(resp, c, w, mode);
     let up = params.image_upsample;
-    let i = 3 * n;
-    list[i] = input_at(up, x, fx);
-    list[i + 1] = input_at(up, y, fy);
-    list[i + 2] = resp[c];
+    store(list, n, input_at(up, x, fx), input_at(up, y, fy), resp[c]);
 }
 
 // The corners of row y, after the n that are found above it. Places that cannot be kept are passed over in runs.

@@ -186,15 +186,18 @@ fn size(x: f32) -> f32
     x
 }
 
+// What fails both tests is told as flat.
 fn compared(k: usize, tr: f32, spread: f32) -> Saddle
     requires { ⌜ k ≤ 7 ⌝ }
     ensures { λ r. ⌜ r ≡ verdict k tr spread ⌝ }
 {
     let kk = (k * k) as u16 as f32;
-    if spread * kk >= MIN_SADDLE_SPREAD {
-        if size(tr) * (1.0 + MIN_SADDLE_RATIO) <= spread * (1.0 - MIN_SADDLE_RATIO) {
-            return Saddle::Yes;
-        }
+    let steep = spread * kk >= MIN_SADDLE_SPREAD;
+    let even = size(tr) * (1.0 + MIN_SADDLE_RATIO) <= spread * (1.0 - MIN_SADDLE_RATIO);
+    if steep & even {
+        return Saddle::Yes;
+    }
+    if steep {
         return Saddle::Curved;
     }
     Saddle::Flat

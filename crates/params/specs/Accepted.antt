@@ -54,6 +54,10 @@ module _ (s b : Answer) {a : Answer} {n : ℕ} (is : a ≡ s) (number : n ≡ nu
   pub stage-passes : {r : Answer} → n ≡ 0 → r ≡ b → r ≡ orElse s b
   stage-passes z e = rw (← is, eq-eqb (numberOf a) 0 (sym number ∙ z)) e
 
+-- two stages that are joined: a and b are what was said of them
+pub stages-joined : {s t a b r : Answer} → a ≡ s → b ≡ t → r ≡ orElse a b → r ≡ orElse s t
+stages-joined first rest e = rw (first, rest) at e
+
 pub stage-zero : (s : Answer) {a : Answer} {n : ℕ} → a ≡ s → n ≡ numberOf a → n ≡ 0 → numberOf s ≡ 0
 stage-zero s is number z = rw (← is) (sym number ∙ z)
 

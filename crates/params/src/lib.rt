@@ -4,7 +4,7 @@ ghost use Prim.Native.Nat.{_≤_};
 ghost use Rattle.params.specs.Settings.{defaults, factorOf, rayOf};
 ghost use Rattle.params.specs.Coordinates.{toInput};
 ghost use Rattle.params.specs.Answers.{numberOf, refused};
-ghost use Rattle.params.specs.Refusals.{sizeRefusal, mapRefusal, listRefusal, roomRefusal, refusalOf, mapRefusalOf, pixelsOf};
+ghost use Rattle.params.specs.Refusals.{orElse, sizeRefusal, mapRefusal, listRefusal, roomRefusal, refusalOf, mapRefusalOf, pixelsOf};
 
 // How a peak is fitted between pixels.
 pub enum PeakFitMode {
@@ -162,6 +162,13 @@ impl Answer {
             Answer::Mode => 14,
         }
     }
+
+    // This answer where it refuses, and the other where it does not.
+    pub fn or_else(self, other: Answer) -> Answer
+        ensures { λ r. ⌜ r ≡ orElse self other ⌝ }
+    {
+        if self.number() == 0 { other } else { self }
+    }
 }
 
 // What a call reports: its answer, how many corners it found, and the working image's sides.
@@ -275,10 +282,8 @@ pub fn judge_for_map(
         return size;
     }
     let map = judge_map(p);
-    if map.number() != 0 {
-        return map;
-    }
-    judge_room(pixels(width, height, p.image_upsample), room)
+    let lent = judge_room(pixels(width, height, p.image_upsample), room);
+    map.or_else(lent)
 }
 
 // The finder's answer: 2 to 9, the lowest that applies.
@@ -296,12 +301,7 @@ pub fn judge(
         return size;
     }
     let map = judge_map(p);
-    if map.number() != 0 {
-        return map;
-    }
     let list = judge_list(p);
-    if list.number() != 0 {
-        return list;
-    }
-    judge_room(pixels(width, height, p.image_upsample), room)
+    let lent = judge_room(pixels(width, height, p.image_upsample), room);
+    map.or_else(list.or_else(lent))
 }

@@ -6,7 +6,7 @@ ghost use lib.ListN.{length, getD};
 ghost use lib.IntN.{pos};
 ghost use lib.Ieee.{nan, binary32, ofInt};
 ghost use lib.Ieee as ieee;
-ghost use Rattle.float.specs.Values.{f0};
+ghost use Rattle.float.specs.Values.{f0, f1};
 ghost use Rattle.grid.specs.Fill.{filled};
 ghost use Rattle.grid.specs.Plane.{plane};
 ghost use Rattle.grid.specs.Touch.{touched};
@@ -86,10 +86,11 @@ fn divide_edge(dst: &mut [f32], a: usize, e: usize, radius: usize)
     }
 }
 
-// Each entry is multiplied by f.
-fn scale(dst: &mut [f32], f: f32)
-    ensures { λ _. ⌜ now (dst .exit) ≡ touched nan 0 (length (now (dst .entry))) (λ _ v. ieee.mul binary32 v f) (now (dst .entry)) ⌝ }
+// Each entry is multiplied by the reciprocal of n, which is rounded once.
+fn scale(dst: &mut [f32], n: f32)
+    ensures { λ _. ⌜ now (dst .exit) ≡ touched nan 0 (length (now (dst .entry))) (λ _ v. ieee.mul binary32 v (ieee.div binary32 f1 n)) (now (dst .entry)) ⌝ }
 {
+    let f = 1.0 / n;
     for x in 0..dst.len() {
         dst[x] = dst[x] * f;
     }
@@ -151,7 +152,7 @@ fn mean_column(src: &[f32], w: usize, h: usize, y: usize, radius: usize, dst: &m
         add(dst, 0, w, src, k * w);
         k += 1;
     }
-    scale(dst, 1.0 / n);
+    scale(dst, n);
 }
 
 fn blur_rows(resp: &[f32], w: usize, h: usize, radius: usize, scratch: &mut [f32])

@@ -11,10 +11,9 @@ use mathlib.Core.List.{List, []}
 use lib.Dec.{leb}
 use lib.ListN.{length, getD, take, drop}
 use lib.Ieee.{Float, nan}
-use denote.Ref.{RefT, now, ptr}
 use Rattle.grid.specs.Plane.{row-in}
 use Rattle.view.specs.declared.Place.the-variants.{Value, Outside}
-use Rattle.view.specs.View.{whole, rowInside, placeAt, rowAt, rowStart, entryPtr, Row}
+use Rattle.view.specs.View.{whole, rowInside, placeAt, rowAt, rowStart}
 
 -- two tests are one, if each holds where the other does
 same-test : (a m b n : ℕ) → (a ≤ m → b ≤ n) → (b ≤ n → a ≤ m) → leb a m ≡ leb b n
@@ -86,14 +85,22 @@ module _ (response : List Float) (image : List ℕ) (w h x y : ℕ) where
   unfolding placeAt
   place-found l t = simp (sym t, lt-ltb x w l)
 
-module _ (response : RefT (List Float)) (image : List ℕ) (w h y : ℕ) (r : RefT (List Float)) where
-  pub row-none : false ≡ rowInside (length (now response)) (length image) w h y → now r ≡ [] → ptr r ≡ entryPtr response 0 → Row response image w h y r
-  unfolding rowAt rowStart
-  row-none t u p = record { values = rw (← t) u; itself = rw (← t) p }
+-- what is handed back, and the entry at which it starts
+module _ (response : List Float) (image : List ℕ) (w h y : ℕ) where
+  pub values-none : false ≡ rowInside (length response) (length image) w h y → [] ≡ rowAt response image w h y
+  unfolding rowAt
+  values-none t = rw (← t)
 
-  pub row-found : (e : ℕ) → true ≡ rowInside (length (now response)) (length image) w h y → e ≡ y * w + w → now r ≡ take (e - y * w) (drop (y * w) (now response))
-      → ptr r ≡ entryPtr response (y * w) → Row response image w h y r
-  unfolding rowAt rowStart
-  row-found e t i u p =
-      let n : e - y * w ≡ w = omega arith in
-      record { values = rw (← t) (rw n at u); itself = rw (← t) p }
+  pub start-none : false ≡ rowInside (length response) (length image) w h y → 0 ≡ rowStart response image w h y
+  unfolding rowStart
+  start-none t = rw (← t)
+
+  pub values-found : true ≡ rowInside (length response) (length image) w h y → take (y * w + w - y * w) (drop (y * w) response) ≡ rowAt response image w h y
+  unfolding rowAt
+  values-found t =
+      let n : y * w + w - y * w ≡ w = omega arith in
+      rw (← t, n)
+
+  pub start-found : true ≡ rowInside (length response) (length image) w h y → y * w ≡ rowStart response image w h y
+  unfolding rowStart
+  start-found t = rw (← t)

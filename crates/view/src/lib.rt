@@ -68,7 +68,8 @@ pub fn row_at<'a, 'b>(
 ) -> &'a [f32]
     ensures { λ r. ⌜ Row (response .entry) (now (image .entry)) w h y r ⌝ }
 {
-    if row_inside(response.len(), image.len(), w, h, y) {
+    let entries = response.len();
+    if row_inside(entries, image.len(), w, h, y) {
         let start = y * w;
         let end = start + w;
         return &response[start..end];

@@ -1,56 +1,76 @@
 -- `detect::judge` meets its contract: the stages in their order, each from what its judge ensures. Assumes nothing.
+use Prim.Native.Nat.{_≤_}
 use native.Mathlib.Nat.{mul-le-mul}
 use mir.Facts.{fits-le, fits-lit}
-use Rattle.params.specs.Accepted.{stage-refuses, stage-passes, stage-zero}
+use Rattle.params.specs.Accepted.{stage-refuses, stage-passes, stages-joined, stage-zero}
 use Rattle.detect.specs.Detected.{peaksRefusal}
 use Rattle.detect.proofs.Allowing.{working-passes}
 use borrow.Author.Needs.{needs}
 use Rattle.detect.proofs.judge.Statement.{statement}
 use Rattle.detect.proofs.judge.Tie as tie
 
+-- from where the size has passed back to its judge
+abbrev sized : tie.Else1 → tie.After-judge-working
+sized c = c .before .before
+
+-- and the end back to there
+abbrev passed : tie.After-or-else2 → tie.Else1
+passed c = c .before .before .before .before .before
+
+-- both sides are small enough that W·H is a number of the machine's
+sizes : (c : tie.Else1) → (sized c .before .args .w ≤ 8192) × (sized c .before .args .h ≤ 8192)
+sizes c = working-passes _ _ (stage-zero _ (sized c .judge-working .ensures) (c .before .number .ensures) (c .if1 .left))
+
+judge-working-requires : tie.Need-judge-working-requires
+judge-working-requires c κs = search needs
+
+number-requires : tie.Need-number-requires
+number-requires c κs = search needs
+
 returns : tie.Need-returns
 unfolding peaksRefusal
 returns c = stage-refuses _ _ (c .before .before .judge-working .ensures) (c .before .number .ensures) (c .if1 .taken)
 
-returns-2 : tie.Need-returns-2
-unfolding peaksRefusal
-returns-2 c =
-    stage-passes _ _ (c .before .before .before .before .before .judge-working .ensures) (c .before .before .before .before .number .ensures) (c .before .before .before .if1 .left)
-    (stage-refuses _ _ (c .before .before .judge-map .ensures) (c .before .number2 .ensures) (c .if2 .taken))
+judge-map-requires : tie.Need-judge-map-requires
+judge-map-requires c κs = search needs
 
-returns-3 : tie.Need-returns-3
-unfolding peaksRefusal
-returns-3 c =
-    stage-passes _ _ (c .before .before .before .before .before .before .before .before .judge-working .ensures) (c .before .before .before .before .before .before .before .number .ensures) (c .before .before .before .before .before .before .if1 .left)
-    (stage-passes _ _ (c .before .before .before .before .before .judge-map .ensures) (c .before .before .before .before .number2 .ensures) (c .before .before .before .if2 .left)
-    (stage-refuses _ _ (c .before .before .judge-list .ensures) (c .before .number3 .ensures) (c .if3 .taken)))
+judge-list-requires : tie.Need-judge-list-requires
+judge-list-requires c κs = search needs
 
 mul-judge-room : tie.Need-mul-judge-room
 mul-judge-room c =
-    let s = working-passes _ _ (stage-zero _ (c .before .before .before .before .before .before .before .before .judge-working .ensures) (c .before .before .before .before .before .before .before .number .ensures) (c .before .before .before .before .before .before .if1 .left)) in
+    let s = sizes (c .before .before) in
     fits-le (mul-le-mul (s .0) (s .1)) (fits-lit tt)
 
-returns-4 : tie.Need-returns-4
+judge-room-requires : tie.Need-judge-room-requires
+judge-room-requires c κs = search needs
+
+or-else-requires : tie.Need-or-else-requires
+or-else-requires c κs = search needs
+
+or-else-requires-2 : tie.Need-or-else-requires-2
+or-else-requires-2 c κs = search needs
+
+returns-2 : tie.Need-returns-2
 unfolding peaksRefusal
-returns-4 c =
-    stage-passes _ _ (c .before .before .before .before .before .before .before .before .before .judge-working .ensures) (c .before .before .before .before .before .before .before .before .number .ensures) (c .before .before .before .before .before .before .before .if1 .left)
-    (stage-passes _ _ (c .before .before .before .before .before .before .judge-map .ensures) (c .before .before .before .before .before .number2 .ensures) (c .before .before .before .before .if2 .left)
-    (stage-passes _ _ (c .before .before .before .judge-list .ensures) (c .before .before .number3 .ensures) (c .before .if3 .left)
-    (c .judge-room .ensures)))
+returns-2 c =
+    let s = passed c in
+    stage-passes _ _ (sized s .judge-working .ensures) (s .before .number .ensures) (s .if1 .left)
+    (stages-joined (c .before .before .before .before .judge-map .ensures)
+    (stages-joined (c .before .before .before .judge-list .ensures) (c .before .before .judge-room .ensures) (c .before .or-else .ensures))
+    (c .or-else2 .ensures))
 
 pub judge-spec : {M : Type 1} → statement M
 judge-spec =
     tie.close
     (tie.spec
-    (λ c κs. search needs)
-    (λ c κs. search needs)
+    judge-working-requires
+    number-requires
     returns
-    (λ c κs. search needs)
-    (λ c κs. search needs)
-    returns-2
-    (λ c κs. search needs)
-    (λ c κs. search needs)
-    returns-3
+    judge-map-requires
+    judge-list-requires
     mul-judge-room
-    (λ c κs. search needs)
-    returns-4)
+    judge-room-requires
+    or-else-requires
+    or-else-requires-2
+    returns-2)

@@ -1,55 +1,82 @@
 -- `params::judge` meets its contract: the stages in their order, each from what its judge ensures. Assumes nothing.
-use mathlib.Core.Path.{ap, _∙_}
+use mathlib.Core.Path.{_≡_, ap, _∙_}
 use borrow.Author.Needs.{needs}
-use Rattle.params.specs.Refusals.{refusalOf, roomRefusal}
-use Rattle.params.specs.Accepted.{stage-refuses, stage-passes, stage-zero, sizes-pass}
+use Rattle.params.specs.Refusals.{pixelsOf, roomRefusal, refusalOf}
+use Rattle.params.specs.Accepted.{SizesPass, stage-refuses, stage-passes, stages-joined, stage-zero, sizes-pass}
 use Rattle.params.proofs.judge.Statement.{statement}
 use Rattle.params.proofs.judge.Tie as tie
 
+-- the way back: from where the size has passed to its judge and to the start, and from the end to there
+abbrev sized : tie.Else1 → tie.After-judge-size
+sized c = c .before .before
+
+abbrev start : tie.Else1 → tie.Start
+start c = sized c .before
+
+abbrev passed : tie.After-or-else2 → tie.Else1
+passed c = c .before .before .before .before .before .before
+
+-- the sizes are small enough that W·H is a number of the machine's
+sizes : (c : tie.Else1) → SizesPass (start c .args .width) (start c .args .height) (start c .args .image) (start c .args .p .«image_upsample»)
+sizes c =
+    let o = start c .args in
+    sizes-pass (o .width) (o .height) (o .image) (o .p .«image_upsample»)
+    (stage-zero _ (sized c .judge-size .ensures) (c .before .number .ensures) (c .if1 .left))
+
+-- the last stage is asked with W·H
+room : (c : tie.After-or-else2) →
+    let o = start (passed c) .args in
+    c .before .before .judge-room .result ≡ roomRefusal (pixelsOf (o .width) (o .height) (o .p .«image_upsample»)) (o .room)
+room c = c .before .before .judge-room .ensures ∙ ap (λ n. roomRefusal n (start (passed c) .args .room)) (c .before .before .before .pixels .ensures)
+
+judge-size-requires : tie.Need-judge-size-requires
+judge-size-requires c κs = search needs
+
+number-requires : tie.Need-number-requires
+number-requires c κs = search needs
+
 returns : tie.Need-returns
 unfolding refusalOf
-returns c =
-    stage-refuses _ _ (c .before .before .judge-size .ensures) (c .before .number .ensures) (c .if1 .taken)
+returns c = stage-refuses _ _ (c .before .before .judge-size .ensures) (c .before .number .ensures) (c .if1 .taken)
+
+judge-map-requires : tie.Need-judge-map-requires
+judge-map-requires c κs = search needs
+
+judge-list-requires : tie.Need-judge-list-requires
+judge-list-requires c κs = search needs
+
+pixels-requires : tie.Need-pixels-requires
+pixels-requires c κs = (sizes (c .before .before) .wide, sizes (c .before .before) .high)
+
+judge-room-requires : tie.Need-judge-room-requires
+judge-room-requires c κs = search needs
+
+or-else-requires : tie.Need-or-else-requires
+or-else-requires c κs = search needs
+
+or-else-requires-2 : tie.Need-or-else-requires-2
+or-else-requires-2 c κs = search needs
 
 returns-2 : tie.Need-returns-2
 unfolding refusalOf
 returns-2 c =
-    stage-passes _ _ (c .before .before .before .before .before .judge-size .ensures) (c .before .before .before .before .number .ensures) (c .before .before .before .if1 .left)
-    (stage-refuses _ _ (c .before .before .judge-map .ensures) (c .before .number2 .ensures) (c .if2 .taken))
-
-returns-3 : tie.Need-returns-3
-unfolding refusalOf
-returns-3 c =
-    stage-passes _ _ (c .before .before .before .before .before .before .before .before .judge-size .ensures) (c .before .before .before .before .before .before .before .number .ensures) (c .before .before .before .before .before .before .if1 .left)
-    (stage-passes _ _ (c .before .before .before .before .before .judge-map .ensures) (c .before .before .before .before .number2 .ensures) (c .before .before .before .if2 .left)
-    (stage-refuses _ _ (c .before .before .judge-list .ensures) (c .before .number3 .ensures) (c .if3 .taken)))
-
-returns-4 : tie.Need-returns-4
-unfolding refusalOf
-returns-4 c =
-    stage-passes _ _ (c .before .before .before .before .before .before .before .before .before .before .judge-size .ensures) (c .before .before .before .before .before .before .before .before .before .number .ensures) (c .before .before .before .before .before .before .before .before .if1 .left)
-    (stage-passes _ _ (c .before .before .before .before .before .before .before .judge-map .ensures) (c .before .before .before .before .before .before .number2 .ensures) (c .before .before .before .before .before .if2 .left)
-    (stage-passes _ _ (c .before .before .before .before .judge-list .ensures) (c .before .before .before .number3 .ensures) (c .before .before .if3 .left)
-    (c .judge-room .ensures ∙ ap (λ n. roomRefusal n (c .before .before .before .before .before .before .before .before .before .before .before .args .room)) (c .before .pixels .ensures))))
-
-pixels-requires : tie.Need-pixels-requires
-pixels-requires c κs =
-    let s = sizes-pass _ _ _ _ (stage-zero _ (c .before .before .before .before .before .before .before .before .judge-size .ensures) (c .before .before .before .before .before .before .before .number .ensures) (c .before .before .before .before .before .before .if1 .left)) in
-    (s .wide, s .high)
+    let s = passed c in
+    stage-passes _ _ (sized s .judge-size .ensures) (s .before .number .ensures) (s .if1 .left)
+    (stages-joined (c .before .before .before .before .before .judge-map .ensures)
+    (stages-joined (c .before .before .before .before .judge-list .ensures) (room c) (c .before .or-else .ensures))
+    (c .or-else2 .ensures))
 
 pub judge-spec : {M : Type 1} → statement M
 judge-spec =
     tie.close
     (tie.spec
-    (λ c κs. search needs)
-    (λ c κs. search needs)
+    judge-size-requires
+    number-requires
     returns
-    (λ c κs. search needs)
-    (λ c κs. search needs)
-    returns-2
-    (λ c κs. search needs)
-    (λ c κs. search needs)
-    returns-3
+    judge-map-requires
+    judge-list-requires
     pixels-requires
-    (λ c κs. search needs)
-    returns-4)
+    judge-room-requires
+    or-else-requires
+    or-else-requires-2
+    returns-2)

@@ -8,7 +8,9 @@ use Rattle.view.proofs.place_at.Statement.{statement}
 use Rattle.view.proofs.place_at.Tie as tie
 
 returns : tie.Need-returns
-returns c = place-past _ _ _ _ _ _ (c .if1 .taken)
+returns c =
+    let o = c .before .before .before .args in
+    place-past (o .response .now) (o .image .now) (o .w) (o .h) (o .x) (o .y) (omega arith)
 
 row-inside-requires : tie.Need-row-inside-requires
 row-inside-requires c κs = search needs
@@ -26,7 +28,10 @@ shared-slice-read-t15 : tie.Need-shared-slice-read-t15
 shared-slice-read-t15 c = omega (arith, row-ends _ _ _ _ _ (sym (c .before .if2 .taken) ∙ c .before .before .row-inside .ensures))
 
 returns-2 : tie.Need-returns-2
-returns-2 c = place-found _ _ _ _ _ _ (omega arith) (sym (c .before .if2 .taken) ∙ c .before .before .row-inside .ensures)
+returns-2 c =
+    let o = c .before .before .before .before .before .before .args in
+    place-found (o .response .now) (o .image .now) (o .w) (o .h) (o .x) (o .y) (omega arith)
+    (sym (c .before .if2 .taken) ∙ c .before .before .row-inside .ensures)
 
 returns-3 : tie.Need-returns-3
 returns-3 c = place-none _ _ _ _ _ _ (sym (c .if2 .left) ∙ c .before .row-inside .ensures)

@@ -1,9 +1,10 @@
 -- `view::row_at` meets its contract: a row inside ends within the response, and what is handed back lies there.
 -- Assumes nothing.
-use mathlib.Core.Path.{refl, sym, _∙_}
+use mathlib.Core.Path.{sym, ap, _∙_}
 use native.Mathlib.Omega.{arith}
 use borrow.Author.Needs.{needs}
-use Rattle.view.specs.Steps.{row-ends, row-none, row-found}
+use Rattle.view.specs.View.{entryPtr}
+use Rattle.view.specs.Steps.{row-ends, values-none, start-none, values-found, start-found}
 use Rattle.view.proofs.row_at.Statement.{statement}
 use Rattle.view.proofs.row_at.Tie as tie
 
@@ -29,7 +30,13 @@ part-result-end : tie.Need-part-result-end
 part-result-end c = omega (arith, row-ends _ _ _ _ _ (sym (c .if1 .taken) ∙ c .before .row-inside .ensures))
 
 returns : tie.Need-returns
-returns c = row-found _ _ _ _ _ _ _ (sym (c .before .if1 .taken) ∙ c .before .before .row-inside .ensures) refl refl refl
+returns c =
+    let o = c .before .before .before .before .before .args in
+    let t = sym (c .before .if1 .taken) ∙ c .before .before .row-inside .ensures in
+    record {
+      values = values-found (o .response .now) (o .image .now) (o .w) (o .h) (o .y) t;
+      itself = ap (entryPtr (o .response)) (start-found (o .response .now) (o .image .now) (o .w) (o .h) (o .y) t);
+    }
 
 sub-result-2 : tie.Need-sub-result-2
 sub-result-2 c = search needs
@@ -41,7 +48,13 @@ part-result-end-2 : tie.Need-part-result-end-2
 part-result-end-2 c = search needs
 
 returns-2 : tie.Need-returns-2
-returns-2 c = row-none _ _ _ _ _ _ (sym (c .before .if1 .left) ∙ c .before .before .row-inside .ensures) refl refl
+returns-2 c =
+    let o = c .before .before .before .before .before .args in
+    let t = sym (c .before .if1 .left) ∙ c .before .before .row-inside .ensures in
+    record {
+      values = values-none (o .response .now) (o .image .now) (o .w) (o .h) (o .y) t;
+      itself = ap (entryPtr (o .response)) (start-none (o .response .now) (o .image .now) (o .w) (o .h) (o .y) t);
+    }
 
 pub row-at-spec : {M : Type 1} → statement M
 row-at-spec =

@@ -1,4 +1,4 @@
--- `scale` meets its contract: a turn multiplies one entry. Assumes nothing.
+-- `scale` meets its contract: a turn multiplies one entry by the reciprocal. Assumes nothing.
 use mathlib.Core.Path.{refl}
 use Prim.Native.Nat.{_-_}
 use native.Mathlib.Omega.{arith}
@@ -10,10 +10,10 @@ use Rattle.response.proofs.blur.scale.Statement.{statement}
 use Rattle.response.proofs.blur.scale.Tie as tie
 
 abbrev Inv-loop : tie.InvT-loop
-Inv-loop dst₀ f x₀ x-end dst x = Span nan 0 (length dst₀) (λ _ v. ieee.mul binary32 v f) dst₀ dst x
+Inv-loop dst₀ n f x₀ x-end dst x = Span nan 0 (length dst₀) (λ _ v. ieee.mul binary32 v f) dst₀ dst x
 
 abbrev μ-loop : tie.MeasureT-loop
-μ-loop dst₀ f x₀ x-end dst x = length dst₀ - x
+μ-loop dst₀ n f x₀ x-end dst x = length dst₀ - x
 
 pub scale-spec : {M : Type 1} → statement M
 scale-spec =
