@@ -1,0 +1,15 @@
+pub mod Machine
+pub mod Tests
+pub mod Loops
+pub mod Exact
+pub mod Upsample
+pub mod Tables
+pub mod Response
+pub mod Blur
+pub mod Map
+pub mod Neighbors
+pub mod Root
+pub mod Saddle
+pub mod Values
+pub mod Detect
+pub mod Crown
