@@ -227,7 +227,7 @@ module _ (m : Machine) (img : List ℕ) (w h : ℕ) (p : RadonDetectorParams) (s
 
 -- ---- there is such a machine: with our root and our logarithm, and anything in place of a panic
 
-pub ours : Machine
+unfoldable pub ours : Machine
 ours = record {
   ln = λ v. difference (unitsOf terms (toBits binary32 v)) (6 * cutThird terms);
   sqrt = nearest-root;

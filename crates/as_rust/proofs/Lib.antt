@@ -1,4 +1,5 @@
 pub mod Machine
+pub mod Literals
 pub mod Tests
 pub mod Loops
 pub mod Exact
@@ -13,3 +14,4 @@ pub mod Saddle
 pub mod Values
 pub mod Detect
 pub mod Crown
+pub mod Worked
