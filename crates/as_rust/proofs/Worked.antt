@@ -1,4 +1,4 @@
--- Frames run through the Rust's text as it stands in specs/, from empty buffers: document 01's, and two more of crates/replay_list/stdin (its third record and its sixty-second),
+-- Frames run through the Rust's text as it stands in specs/, from empty buffers: document 01's, and records 322 and 190 of crates/replay_program/stdin,
 -- with the numbers that the compiled Rust gave. Assumes nothing.
 use mathlib.Core.Path.{_≡_, refl}
 use mathlib.Core.List.{List, [], _∷_}
@@ -64,57 +64,62 @@ pub document-run : ran document-frame 7 7 document-settings
 unfolding ours times for-signed chunks put copy-from-slice resize floor rounded clamp max-f32 abs i64 i32 usize u32 less fit-peak-frac horiz-px horiz-kernel vert-kernel box-blur-inplace ensure-capacity out-px row-kernel upsample-bilinear-2x sat-row sat-col sat-diag-pos sat-diag-neg radon-response-at compute-response-row compute-response radon-response-u8 is-local-max count-positive-neighbors relative-floor offsets new-saddle accepts process-pixel detect-peaks-from-radon each keep range from rootBits ofBits toBits ofInt toSigned toUnsigned isNan add sub mul div lt le eq
 document-run = refl
 
--- the same frame at factor 2: a plateau of nine corners
-abbrev doubled-settings : RadonDetectorParams
-doubled-settings = record {
+-- 5 by 3 at factor 2, blur radius 2, no suppression: six corners
+abbrev small-frame : List ℕ
+small-frame = 60 ∷ 66 ∷ 60 ∷ 53 ∷ 53
+    ∷ 45 ∷ 59 ∷ 66 ∷ 49 ∷ 43
+    ∷ 38 ∷ 43 ∷ 45 ∷ 47 ∷ 24 ∷ []
+
+abbrev small-settings : RadonDetectorParams
+small-settings = record {
   «ray_radius» = 1;
   «image_upsample» = 2;
-  «response_blur_radius» = 0;
+  «response_blur_radius» = 2;
   «peak_fit» = Parabolic;
-  «threshold_rel» = ofBits binary32 0x3e8f_5c29;
-  «nms_radius» = 1;
-  «min_cluster_size» = 2;
+  «threshold_rel» = ofBits binary32 0x3dcc_cccd;
+  «nms_radius» = 0;
+  «min_cluster_size» = 0;
 }
 
-pub doubled-run : ran document-frame 7 7 doubled-settings
-    ≡ corner 0x4030_0000 0x4030_0000 0x461c_4000 ∷
-    corner 0x4040_0000 0x4030_0000 0x461c_4000 ∷
-    corner 0x4050_0000 0x4030_0000 0x461c_4000 ∷
-    corner 0x4030_0000 0x4040_0000 0x461c_4000 ∷
-    corner 0x4040_0000 0x4040_0000 0x461c_4000 ∷
-    corner 0x4050_0000 0x4040_0000 0x461c_4000 ∷
-    corner 0x4030_0000 0x4050_0000 0x461c_4000 ∷
-    corner 0x4040_0000 0x4050_0000 0x461c_4000 ∷
-    corner 0x4050_0000 0x4050_0000 0x461c_4000 ∷ []
+pub small-run : ran small-frame 5 3 small-settings
+    ≡ corner 0x4030_0000 0x3fa0_0000 0x42af_eb85 ∷
+    corner 0x4060_0000 0x3fa0_0000 0x4293_3333 ∷
+    corner 0x3f80_0000 0x3fa0_0000 0x4251_1eb8 ∷
+    corner 0x3fe0_0000 0x3fa0_0000 0x429c_3d71 ∷
+    corner 0x4027_6093 0x3fc0_0000 0x42b7_1eb8 ∷
+    corner 0x4060_0000 0x3fc0_0000 0x4293_3333 ∷ []
 unfolding ours times for-signed chunks put copy-from-slice resize floor rounded clamp max-f32 abs i64 i32 usize u32 less fit-peak-frac horiz-px horiz-kernel vert-kernel box-blur-inplace ensure-capacity out-px row-kernel upsample-bilinear-2x sat-row sat-col sat-diag-pos sat-diag-neg radon-response-at compute-response-row compute-response radon-response-u8 is-local-max count-positive-neighbors relative-floor offsets new-saddle accepts process-pixel detect-peaks-from-radon each keep range from rootBits ofBits toBits ofInt toSigned toUnsigned isNan add sub mul div lt le eq
-doubled-run = refl
+small-run = refl
 
--- 15 by 10, blur radius 3: two corners with offsets
-abbrev blurred-frame : List ℕ
-blurred-frame = 102 ∷ 12 ∷ 156 ∷ 252 ∷ 254 ∷ 60 ∷ 36 ∷ 136 ∷ 53 ∷ 2 ∷ 12 ∷ 249 ∷ 247 ∷ 167 ∷ 121
-    ∷ 255 ∷ 226 ∷ 87 ∷ 215 ∷ 218 ∷ 5 ∷ 0 ∷ 83 ∷ 251 ∷ 164 ∷ 141 ∷ 250 ∷ 255 ∷ 102 ∷ 7
-    ∷ 255 ∷ 156 ∷ 0 ∷ 0 ∷ 121 ∷ 104 ∷ 16 ∷ 183 ∷ 248 ∷ 255 ∷ 25 ∷ 30 ∷ 159 ∷ 40 ∷ 1
-    ∷ 116 ∷ 84 ∷ 1 ∷ 3 ∷ 237 ∷ 255 ∷ 203 ∷ 101 ∷ 205 ∷ 183 ∷ 0 ∷ 0 ∷ 99 ∷ 248 ∷ 155
-    ∷ 47 ∷ 255 ∷ 189 ∷ 132 ∷ 255 ∷ 255 ∷ 129 ∷ 7 ∷ 0 ∷ 138 ∷ 91 ∷ 9 ∷ 205 ∷ 255 ∷ 235
-    ∷ 158 ∷ 255 ∷ 253 ∷ 56 ∷ 23 ∷ 105 ∷ 69 ∷ 0 ∷ 11 ∷ 255 ∷ 254 ∷ 191 ∷ 102 ∷ 205 ∷ 160
-    ∷ 60 ∷ 176 ∷ 228 ∷ 4 ∷ 3 ∷ 85 ∷ 255 ∷ 183 ∷ 151 ∷ 255 ∷ 255 ∷ 101 ∷ 0 ∷ 0 ∷ 156
-    ∷ 3 ∷ 5 ∷ 116 ∷ 131 ∷ 26 ∷ 181 ∷ 249 ∷ 250 ∷ 27 ∷ 19 ∷ 126 ∷ 53 ∷ 0 ∷ 42 ∷ 255
-    ∷ 0 ∷ 0 ∷ 231 ∷ 247 ∷ 230 ∷ 74 ∷ 175 ∷ 198 ∷ 5 ∷ 8 ∷ 97 ∷ 255 ∷ 186 ∷ 134 ∷ 255
-    ∷ 218 ∷ 115 ∷ 241 ∷ 255 ∷ 128 ∷ 0 ∷ 4 ∷ 134 ∷ 122 ∷ 37 ∷ 215 ∷ 254 ∷ 240 ∷ 19 ∷ 12 ∷ []
+-- 14 by 11, ray radius 2: four corners with offsets
+abbrev plain-frame : List ℕ
+plain-frame = 153 ∷ 153 ∷ 153 ∷ 153 ∷ 153 ∷ 153 ∷ 153 ∷ 42 ∷ 42 ∷ 42 ∷ 153 ∷ 153 ∷ 153 ∷ 153
+    ∷ 42 ∷ 42 ∷ 42 ∷ 42 ∷ 42 ∷ 42 ∷ 42 ∷ 42 ∷ 42 ∷ 42 ∷ 42 ∷ 42 ∷ 42 ∷ 42
+    ∷ 42 ∷ 42 ∷ 42 ∷ 42 ∷ 42 ∷ 42 ∷ 42 ∷ 42 ∷ 42 ∷ 42 ∷ 42 ∷ 42 ∷ 42 ∷ 42
+    ∷ 42 ∷ 42 ∷ 42 ∷ 42 ∷ 42 ∷ 42 ∷ 42 ∷ 42 ∷ 42 ∷ 42 ∷ 42 ∷ 42 ∷ 42 ∷ 42
+    ∷ 153 ∷ 153 ∷ 153 ∷ 42 ∷ 42 ∷ 42 ∷ 153 ∷ 153 ∷ 153 ∷ 153 ∷ 153 ∷ 153 ∷ 153 ∷ 153
+    ∷ 42 ∷ 42 ∷ 42 ∷ 42 ∷ 42 ∷ 42 ∷ 42 ∷ 42 ∷ 42 ∷ 42 ∷ 42 ∷ 42 ∷ 42 ∷ 42
+    ∷ 153 ∷ 42 ∷ 42 ∷ 42 ∷ 153 ∷ 153 ∷ 153 ∷ 153 ∷ 153 ∷ 153 ∷ 153 ∷ 153 ∷ 153 ∷ 153
+    ∷ 42 ∷ 42 ∷ 42 ∷ 153 ∷ 153 ∷ 153 ∷ 153 ∷ 153 ∷ 153 ∷ 153 ∷ 153 ∷ 153 ∷ 153 ∷ 153
+    ∷ 42 ∷ 42 ∷ 153 ∷ 153 ∷ 153 ∷ 153 ∷ 153 ∷ 153 ∷ 153 ∷ 153 ∷ 153 ∷ 153 ∷ 153 ∷ 153
+    ∷ 42 ∷ 153 ∷ 153 ∷ 153 ∷ 153 ∷ 153 ∷ 153 ∷ 153 ∷ 153 ∷ 153 ∷ 153 ∷ 153 ∷ 153 ∷ 153
+    ∷ 153 ∷ 153 ∷ 153 ∷ 153 ∷ 153 ∷ 153 ∷ 153 ∷ 153 ∷ 153 ∷ 153 ∷ 153 ∷ 153 ∷ 153 ∷ 153 ∷ []
 
-abbrev blurred-settings : RadonDetectorParams
-blurred-settings = record {
-  «ray_radius» = 1;
+abbrev plain-settings : RadonDetectorParams
+plain-settings = record {
+  «ray_radius» = 2;
   «image_upsample» = 1;
-  «response_blur_radius» = 3;
+  «response_blur_radius» = 0;
   «peak_fit» = Parabolic;
   «threshold_rel» = ofBits binary32 0x3e8f_5c29;
   «nms_radius» = 2;
   «min_cluster_size» = 1;
 }
 
-pub blurred-run : ran blurred-frame 15 10 blurred-settings
-    ≡ corner 0x410f_ffb9 0x4087_12f9 0x478c_bfb3 ∷
-    corner 0x40ae_9006 0x4090_0a34 0x478c_8d93 ∷ []
+pub plain-run : ran plain-frame 14 11 plain-settings
+    ≡ corner 0x40b0_0000 0x409c_4ec5 0x47d8_9480 ∷
+    corner 0x40c0_0000 0x40a3_b13b 0x47d8_9480 ∷
+    corner 0x40e0_0000 0x40a0_0000 0x47d8_9480 ∷
+    corner 0x4100_0000 0x4090_0000 0x47d8_9480 ∷ []
 unfolding ours times for-signed chunks put copy-from-slice resize floor rounded clamp max-f32 abs i64 i32 usize u32 less fit-peak-frac horiz-px horiz-kernel vert-kernel box-blur-inplace ensure-capacity out-px row-kernel upsample-bilinear-2x sat-row sat-col sat-diag-pos sat-diag-neg radon-response-at compute-response-row compute-response radon-response-u8 is-local-max count-positive-neighbors relative-floor offsets new-saddle accepts process-pixel detect-peaks-from-radon each keep range from rootBits ofBits toBits ofInt toSigned toUnsigned isNan add sub mul div lt le eq
-blurred-run = refl
+plain-run = refl
