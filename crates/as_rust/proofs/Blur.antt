@@ -1,22 +1,22 @@
 -- The Rust's blur, in place and with its count in f32, is document 01's. Assumes nothing.
 use mathlib.Core.Path.{_≡_, refl, sym, ap, _∙_}
-use mathlib.Core.Logic.{_⊎_, inl, inr}
+use mathlib.Core.Logic.{inl, inr}
 use mathlib.Core.Bool.{Bool, true, false, cond, _||_}
 use mathlib.Core.List.{List}
-use Prim.Native.Nat.{ℕ, zero, suc, _+_, _-_, _*_, _/_, _%_, _^_, _≤_, _<_, min}
+use Prim.Native.Nat.{ℕ, zero, suc, _+_, _-_, _*_, _/_, _%_, _≤_, _<_, min}
 use native.Mathlib.Nat.{eq-or-lt-of-le, zero-mul, mul-zero, div-add-mod', mul-le-mul-right, mul-le-mul}
 use native.Mathlib.Omega.{arith}
 use borrow.Author.Tests.{eqb-true}
 use lib.Dec.{T, eqb, eqb·suc-zero}
-use lib.ListN.{length, getD, set, length-set}
+use lib.ListN.{length, getD, length-set}
 use lib.Seq.{getD-set-same, getD-set-other}
 use lib.Ieee.{Float, nan, binary32, add, ofInt, ofBits, toBits, fits}
 use Rattle.float.specs.Computed.{every, every-at, alike, alike-same}
-use Rattle.grid.specs.Fill.{filled, filled-intro, filled-zero, length-filled}
+use Rattle.grid.specs.Fill.{filled, filled-intro, filled-zero}
 use Rattle.grid.specs.Plane.{plane, getD-plane, pixel-in, row-in, next-row, column-in, row-number-in}
-use Rattle.grid.specs.Fold.{fold, fold-none, fold-on, fold-ext, fsum}
+use Rattle.grid.specs.Fold.{fold-none, fold-on, fsum}
 use Rattle.response.specs.Blur.{valueAt, counted, windowSum, rowMean, columnMean, blurAt, scratched}
-use Rattle.as_rust.specs.Machine.{Machine, _⊕_, _⊗_, _⊘_, lit-0, lit-1, usize, less, as-f32, float-at, put, for, chunks}
+use Rattle.as_rust.specs.Machine.{Machine, _⊕_, _⊗_, _⊘_, lit-0, lit-1, as-f32, float-at, put, for, chunks}
 use Rattle.as_rust.specs.Primitives.{horiz-px, horiz-kernel, vert-kernel, box-blur-inplace}
 use Rattle.as_rust.proofs.Machine.{usize-is, less-is, inside, put-is}
 use Rattle.as_rust.proofs.Tests.{or-true, or-false, above-0}

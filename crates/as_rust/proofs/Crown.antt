@@ -1,18 +1,18 @@
 -- Demand 2 as a theorem: what a call of ours leaves is what the Rust's own text leaves. For every image, settings and buffers that the call accepts, over any buffers of the Rust's,
 -- on every machine that is sound: no panic and no wrap changes it, nor which zero a sum starts at or `max` gives. Assumes nothing.
 use mathlib.Core.Path.{_≡_, refl, sym, ap, _∙_}
-use mathlib.Core.Logic.{_⊎_, inl, inr}
-use mathlib.Core.Bool.{Bool, true, false}
+use mathlib.Core.Logic.{inl, inr}
+use mathlib.Core.Bool.{true}
 use mathlib.Core.List.{List, [], _∷_}
-use Prim.Native.Nat.{ℕ, zero, suc, _+_, _-_, _*_, _/_, _%_, _≤_, _<_}
+use Prim.Native.Nat.{ℕ, zero, suc, _+_, _-_, _*_, _/_, _%_, _<_}
 use native.Mathlib.Nat.{one-mul}
 use native.Mathlib.Omega.{arith}
 use borrow.Author.Tests.{eq-eqb}
-use lib.Dec.{T, eqb}
+use lib.Dec.{T}
 use lib.ListN.{length, getD, take, length-take}
 use lib.Seq.{getD-take}
 use lib.IntN.{pos}
-use lib.Ieee.{Float, nan, binary32, fits, ofBits, ofInt, toBits, le, lt}
+use lib.Ieee.{Float, nan, binary32, fits, ofBits, toBits, le}
 use lib.Ieee.Fits.{mul-fits, cond-fits}
 use Rattle.float.specs.Values.{f0}
 use Rattle.float.specs.Order.{lt-itself}
@@ -20,15 +20,14 @@ use Rattle.grid.specs.Fill.{filled, getD-filled, length-filled}
 use Rattle.grid.specs.Plane.{plane, getD-plane, pixel-in, column-in, row-number-in}
 use Rattle.grid.specs.Ways.{pixel}
 use Rattle.grid.specs.Each.{each, each-each, each-ext, each-one, take-each, length-each}
-use Rattle.grid.specs.Rect.{Place, place}
+use Rattle.grid.specs.Rect.{Place}
 use Rattle.grid.specs.Over.{over, written}
 use Rattle.grid.specs.All.{all-map, all-keep, all-rect, InRect, each-same}
 use Rattle.params.specs.declared.RadonDetectorParams.{RadonDetectorParams}
 use Rattle.params.specs.declared.PeakFitMode.the-variants.{Parabolic, Gaussian}
 use Rattle.params.specs.Settings.{defaults, factorOf, rayOf}
 use Rattle.params.specs.Answers.{numberOf}
-use Rattle.params.specs.Refusals.{refusalOf}
-use Rattle.params.specs.Accepted.{ListPasses, all-accepted}
+use Rattle.params.specs.Accepted.{all-accepted}
 use Rattle.scalar.specs.Log.{logOf, terms, high, lowest, highest, difference, unitsOf, cutThird}
 use Rattle.scalar.specs.declared.Log.the-variants.{Value}
 use Rattle.scalar.proofs.Facts.{log-inside}
@@ -36,23 +35,23 @@ use Rattle.response.specs.Upsample.{workAt}
 use Rattle.response.specs.Response.{square, raySpread, within, responseAt}
 use Rattle.response.specs.Blur.{columnMean, blurAt}
 use Rattle.response.specs.Runs.{Runs, runs-of}
-use Rattle.response.specs.Map.{Buffers as MapBuffers, answered as map-answered, buffersOf as map-buffersOf, mappedOf, mappedBy, mapped, rawAt, mapAt, workOf, mapOf, sideOf, roomOf}
+use Rattle.response.specs.Map.{Buffers as MapBuffers, answered as map-answered, buffersOf as map-buffersOf, mappedBy, rawAt, mapAt, workOf, mapOf,
+  sideOf, roomOf}
 use Rattle.response.specs.MapFacts.{map-range}
 use Rattle.detect.specs.Window.{value}
 use Rattle.detect.specs.Corners.{borderOf, corners, numbers, stride}
 use Rattle.detect.proofs.Inside.{corners-same}
 use Rattle.radon.specs.Finder.{Buffers, answered, found, outcomeOf, buffersOf}
 use Rattle.radon.proofs.Cases.{runs-by}
-use Rattle.as_rust.specs.Machine.{Machine, Sound, lit-0, lit-minus-0}
+use Rattle.as_rust.specs.Machine.{Machine, Sound, lit-minus-0}
 use Rattle.as_rust.specs.Response.{default, RadonBuffers, RadonResponseView, view, radon-response-u8}
 use Rattle.as_rust.specs.Detect.{detect-peaks-from-radon}
 use Rattle.as_rust.specs.Runs.{Bytes, SameMap, SameList, LogIsOurs, found-by}
 use Rattle.as_rust.proofs.Tests.{T-true}
-use Rattle.as_rust.proofs.Tables.{Image}
 use Rattle.as_rust.proofs.Map.{Left, map-as-rust}
 use Rattle.as_rust.proofs.Root.{nearest-root, nearest-roots}
 use Rattle.as_rust.proofs.Values.{Good}
-use Rattle.as_rust.proofs.Detect.{listed, Viewed, Logs, detect-as-rust}
+use Rattle.as_rust.proofs.Detect.{listed, Viewed, detect-as-rust}
 
 -- ---- the settings
 

@@ -1,6 +1,6 @@
 -- The Rust's list is document 01's, over a map whose values are 0 or from 2^-6 to 2^24, and over an image of bytes. Assumes nothing.
-use mathlib.Core.Path.{_≡_, refl, sym, ap, _∙_}
-use mathlib.Core.Logic.{_⊎_, inl, inr}
+use mathlib.Core.Path.{_≡_, refl, ap, _∙_}
+use mathlib.Core.Logic.{inl, inr}
 use mathlib.Core.Bool.{Bool, true, false, not, cond, _&&_, _||_}
 use mathlib.Core.List.{List, [], _∷_, _++_}
 use Prim.Native.Nat.{ℕ, zero, suc, _+_, _-_, _*_, _^_, _≤_, _<_, max}
@@ -9,8 +9,8 @@ use native.Mathlib.Omega.{arith}
 use borrow.Author.Tests.{leb-true, leb-false, le-ltb, lt-ltb, eqb-true}
 use lib.Dec.{T, ltb, leb, eqb}
 use lib.ListN.{length, getD}
-use lib.IntN.{pos, _+ℤ_}
-use lib.Ieee.{Float, nan, binary32, ofBits, ofInt, fits, div, lt, le}
+use lib.IntN.{pos}
+use lib.Ieee.{Float, nan, binary32, ofBits, ofInt, fits, div, lt}
 use Rattle.grid.specs.Plane.{pixel-in}
 use Rattle.grid.specs.Ways.{pixel}
 use Rattle.grid.specs.Each.{each, each-more, each-none, keep, keep-none, keep-yes, keep-no}
@@ -23,16 +23,16 @@ use Rattle.params.specs.Coordinates.{toInput, scaleOf}
 use Rattle.params.specs.Accepted.{ListPasses}
 use Rattle.scalar.specs.Log.{logOf, terms, high}
 use Rattle.scalar.specs.declared.Log.the-variants.{Value}
-use Rattle.detect.specs.PeakFit.{denominator, usable, allUsable, allAbove, fitOf}
+use Rattle.detect.specs.PeakFit.{flat, denominator, usable, allUsable, allAbove, fitOf}
 use Rattle.detect.specs.Window.{value, beaten, positives}
 use Rattle.detect.specs.declared.saddle.Saddle.{Saddle}
 use Rattle.detect.specs.Corners.{borderOf, candidates, peak, floorOf, firstFailing, bySaddle, isSaddle, isKept, verdict, corners, inputAt, numbers}
-use Rattle.detect.proofs.AsRust.{rustClamp, fit-as-rust as clamped-fit}
-use Rattle.as_rust.specs.Machine.{Machine, Sound, _⊕_, _⊗_, _⊘_, lit-0, lit-1, lit-half, lit-minus-half, clamp, maxℤ, i32, usize, less, as-i32, as-usize, as-f32, float-at, for}
-use Rattle.as_rust.specs.Primitives.{fit-peak-frac}
-use Rattle.as_rust.specs.Response.{RadonResponseView, image-upsample-clamped}
-use Rattle.as_rust.specs.Neighbors.{is-local-max, count-positive-neighbors}
-use Rattle.as_rust.specs.Detect.{relative-floor, new, accepts, process-pixel, detect-peaks-from-radon}
+use Rattle.detect.proofs.AsRust.{rustClamp, rustPeak, fit-as-rust as clamped-fit}
+use Rattle.as_rust.specs.Machine.{Machine, Sound, _⊕_, _⊖_, _⊗_, _⊘_, lit-0, lit-1, lit-half, lit-minus-half, clamp, maxℤ, i32, usize,
+  as-i32, as-usize, as-f32, float-at}
+use Rattle.as_rust.specs.Primitives.{peak-frac, fit-peak-frac}
+use Rattle.as_rust.specs.Response.{RadonResponseView}
+use Rattle.as_rust.specs.Detect.{relative-floor, new, border-of, process-pixel, detect-peaks-from-radon}
 use Rattle.as_rust.proofs.Machine.{usize-is, less-is, i32-is, i32-cast, inside}
 use Rattle.as_rust.proofs.Tests.{T-true, or-true, or-false, above-0}
 use Rattle.as_rust.proofs.Loops.{rect-loop}
@@ -55,6 +55,11 @@ clamp-is x = go (lt x lit-minus-half)
     go true = rw apart
     go false = refl
 
+-- 44-52
+peak-is : (ym y0 yp : Float) → peak-frac ym y0 yp ≡ rustPeak ym y0 yp
+unfolding peak-frac denominator
+peak-is ym y0 yp = λ i. cond (lt flat (denominator ym y0 yp)) lit-0 (clamp-is (lit-half ⊗ (ym ⊖ yp) ⊘ denominator ym y0 yp) i)
+
 -- the machine's logarithm of v is ours
 abbrev pub Logs : Machine → Float → Type 0
 Logs m v = T (lt lit-0 v) → logOf terms high v ≡ Value (m .ln v)
@@ -75,16 +80,16 @@ module _ (m : Machine) (a c b : Float) (A : Held a) (C : Held c) (B : Held b) wh
   usable-all = rw (T-true (usable a) (good-usable a (A .0)), T-true (usable c) (good-usable c (C .0)), T-true (usable b) (good-usable b (B .0)))
 
   fit-as-rust : (mode : PeakFitMode) → (mode ≡ Gaussian → Logs m a × Logs m c × Logs m b) → fit-peak-frac m a c b mode ≡ fitOf mode a c b
-  unfolding fit-peak-frac denominator allAbove
-  fit-as-rust Parabolic need = rw (clamped-fit a c b (A .1) (C .1) (B .1) Parabolic, usable-all, clamp-is)
+  unfolding fit-peak-frac allAbove
+  fit-as-rust Parabolic need = rw (clamped-fit a c b (A .1) (C .1) (B .1) Parabolic, usable-all) (peak-is a c b)
   fit-as-rust Gaussian need = go (lt lit-0 a && (lt lit-0 c && lt lit-0 b)) refl
     where
       go : (t : Bool) → (lt lit-0 a && (lt lit-0 c && lt lit-0 b)) ≡ t → fit-peak-frac m a c b Gaussian ≡ fitOf Gaussian a c b
       go true e =
           let q = three (lt lit-0 a) (lt lit-0 c) (lt lit-0 b) (rw e tt) in
           let n = need refl in
-          rw (clamped-fit a c b (A .1) (C .1) (B .1) Gaussian, usable-all, e, n .0 (q .0), n .1 (q .1), n .2 (q .2), clamp-is)
-      go false e = rw (clamped-fit a c b (A .1) (C .1) (B .1) Gaussian, usable-all, e, clamp-is)
+          rw (clamped-fit a c b (A .1) (C .1) (B .1) Gaussian, usable-all, e, n .0 (q .0), n .1 (q .1), n .2 (q .2)) (peak-is _ _ _)
+      go false e = rw (clamped-fit a c b (A .1) (C .1) (B .1) Gaussian, usable-all, e) (peak-is a c b)
 
 -- ---- 75: the scale
 
@@ -99,19 +104,13 @@ scale-as-rust u = go (factorOf u) (omega arith) (omega arith)
 
 -- ---- 66-73: the border, and no candidates
 
-border-is : (m : Machine) (p : RadonDetectorParams) → p .«ray_radius» ≤ 7 → p .«nms_radius» ≤ 32
-    → as-usize (maxℤ (i32 m (i32 m (as-i32 (max (p .«ray_radius») 1) +ℤ as-i32 (p .«nms_radius»)) +ℤ pos 1)) (pos 0)) ≡ borderOf p
-border-is m p ray nms =
-    let r : max (p .«ray_radius») 1 ≡ rayOf (p .«ray_radius») = omega arith in
-    let R : rayOf (p .«ray_radius») ≤ 7 = omega arith in
-    rw (
-      r,
-      i32-cast (rayOf (p .«ray_radius»)) (omega arith),
-      i32-cast (p .«nms_radius») (omega arith),
-      i32-is m (rayOf (p .«ray_radius») + p .«nms_radius») (omega arith),
-      i32-is m (rayOf (p .«ray_radius») + p .«nms_radius» + 1) (omega arith),
-      le-ltb (rayOf (p .«ray_radius») + p .«nms_radius» + 1) 0 (omega arith),
-    )
+-- a sum of i32 that is not negative
+clipped : (m : Machine) (n : ℕ) → n < 2 ^ 31 → as-usize (maxℤ (i32 m (pos n)) (pos 0)) ≡ n
+clipped m n b = rw (i32-is m n b, le-ltb n 0 (omega arith))
+
+border-is : (m : Machine) (ray nms : ℕ) → ray ≤ 7 → nms ≤ 32 → border-of m (pos ray) (pos nms) ≡ ray + nms + 1
+unfolding border-of
+border-is m ray nms a b = rw (i32-is m (ray + nms) (omega arith)) (clipped m (ray + nms + 1) (omega arith))
 
 none-each : {A B : Type 0} (f : A → List B) → ((a : A) → f a ≡ []) → (l : List A) → each f l ≡ []
 unfolding each
@@ -155,6 +154,10 @@ at-least n k = go (leb k n) refl
     go : (t : Bool) → leb k n ≡ t → ltb n k ≡ not t
     go true e = le-ltb n k (leb-true k n e)
     go false e = lt-ltb n k (leb-false k n e)
+
+-- the four tests of 90-101 in their order, and 113-116
+abbrev decided : Bool → Bool → Bool → Bool → List (List Float) → List Float → List (List Float)
+decided a b c d sink n = cond a sink (cond b sink (cond c sink (cond d sink (sink ++ (n ∷ [])))))
 
 module _ (m : Machine) (sound : Sound m) (v : RadonResponseView) (p : RadonDetectorParams) (o : Viewed v) (ray : p .«ray_radius» ≤ 7) (l : ListPasses p)
     (logs : p .«peak_fit» ≡ Gaussian → (x y : ℕ) → x < v .w → y < v .h → Logs m (value (v .«data») (v .w) x y)) where
@@ -260,6 +263,10 @@ module _ (m : Machine) (sound : Sound m) (v : RadonResponseView) (p : RadonDetec
         wide = o .bytes .wide;
         high = o .bytes .high;
       } in
+      let floored = above-as-rust m t (peak w h f) (l .least) (l .most) best (f x y) (value-held x y (omega arith) (omega arith) .0) in
+      let largest = max-as-rust m vs w h nms x y clear (o .long) in
+      let counted = ap (λ (n : ℕ). ltb n (p .«min_cluster_size»)) (count-as-rust m vs w h nms x y clear (o .long)) ∙ at-least (positives f nms (place x y)) (p .«min_cluster_size») in
+      let saddled = accepts-as-rust m sound (v .image) w h (rayOf (p .«ray_radius»)) x y (omega arith) (omega arith) within in
       rw (
         less-is m x 1 (omega arith),
         less-is m y 1 (omega arith),
@@ -268,13 +275,11 @@ module _ (m : Machine) (sound : Sound m) (v : RadonResponseView) (p : RadonDetec
         reads (x + 1) y (omega arith) (omega arith),
         reads x (y - 1) (omega arith) (omega arith),
         reads x (y + 1) (omega arith) (omega arith),
-        above-as-rust m t (peak w h f) (l .least) (l .most) best (f x y) (value-held x y (omega arith) (omega arith) .0),
-        max-as-rust m vs w h nms x y clear (o .long),
-        count-as-rust m vs w h nms x y clear (o .long),
-        at-least (positives f nms (place x y)) (p .«min_cluster_size»),
-        accepts-as-rust m sound (v .image) w h (rayOf (p .«ray_radius»)) x y (omega arith) (omega arith) within,
       )
-      (turn ps x y (above x y) (not (beaten f nms (place x y))) (enough x y) (isKept (bySaddle (isSaddle p g (place x y)))) _ (kept x y)
+      ((λ i. decided (floored i) (not (largest i)) (counted i) (not (saddled i)) sink
+      (((as-f32 x ⊕ fit-peak-frac m (f (x - 1) y) (f x y) (f (x + 1) y) (p .«peak_fit»)) ⊗ (lit-1 ⊘ as-f32 up))
+      ∷ ((as-f32 y ⊕ fit-peak-frac m (f x (y - 1)) (f x y) (f x (y + 1)) (p .«peak_fit»)) ⊗ (lit-1 ⊘ as-f32 up)) ∷ f x y ∷ []))
+      ∙ turn ps x y (above x y) (not (beaten f nms (place x y))) (enough x y) (isKept (bySaddle (isSaddle p g (place x y)))) _ (kept x y)
       (numbers-as-rust x y (omega arith) (omega arith) (omega arith) (omega arith)) s)
 
   -- 42-145
@@ -288,6 +293,12 @@ module _ (m : Machine) (sound : Sound m) (v : RadonResponseView) (p : RadonDetec
       cast : as-i32 (rayOf (p .«ray_radius»)) ≡ pos (rayOf (p .«ray_radius»))
       cast = i32-cast (rayOf (p .«ray_radius»)) (omega arith)
 
+      cast-nms : as-i32 nms ≡ pos nms
+      cast-nms = i32-cast nms (omega (arith, l .suppression))
+
+      border : border-of m (pos (rayOf (p .«ray_radius»))) (pos nms) ≡ B
+      border = border-is m (rayOf (p .«ray_radius»)) nms (omega arith) (l .suppression)
+
       twice : usize m (2 * B) ≡ 2 * B
       twice = usize-is m (2 * B) (omega (arith, l .suppression))
 
@@ -300,7 +311,7 @@ module _ (m : Machine) (sound : Sound m) (v : RadonResponseView) (p : RadonDetec
         | inr z ↦ empty (low w h B (omega (arith, eqb-true h 0 z)))
       ])
       go false true e q =
-          rw (e, peak-as-rust vs w h (o .long) (some e) (o .good), good-finite (peak-good vs w h (o .long) (some e) (o .good)), border-is m p ray (l .suppression), twice, q)
+          rw (e, peak-as-rust vs w h (o .long) (some e) (o .good), good-finite (peak-good vs w h (o .long) (some e) (o .good)), ray-is, cast, cast-nms, border, twice, q)
           (elim (or-true (leb w (2 * B)) (leb h (2 * B)) q) [
             | inl z ↦ empty (narrow w h B (leb-true w (2 * B) z))
             | inr z ↦ empty (low w h B (leb-true h (2 * B) z))
@@ -313,12 +324,12 @@ module _ (m : Machine) (sound : Sound m) (v : RadonResponseView) (p : RadonDetec
             e,
             peak-as-rust vs w h (o .long) (some e) (o .good),
             good-finite best,
-            border-is m p ray (l .suppression),
-            twice,
-            q,
             ray-is,
             cast,
-            i32-cast nms (omega (arith, l .suppression)),
+            cast-nms,
+            border,
+            twice,
+            q,
             clamped-is (p .«image_upsample»),
             less-is m h B (omega arith),
             less-is m w B (omega arith),

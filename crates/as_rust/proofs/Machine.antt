@@ -1,15 +1,13 @@
 -- Where nothing leaves its type and no index its slice, the machine's operations are the numbers' own, whatever stands for a panic or a wrap. Assumes nothing.
-use mathlib.Core.Path.{_≡_, refl, sym, ap, _∙_}
-use mathlib.Core.Bool.{Bool, true, false, cond}
-use mathlib.Core.List.{List, [], _∷_, _++_}
-use Prim.Native.Nat.{ℕ, zero, suc, _+_, _-_, _*_, _/_, _%_, _^_, _≤_, _<_, min}
+use mathlib.Core.Path.{_≡_, refl}
+use mathlib.Core.List.{List, [], _∷_}
+use Prim.Native.Nat.{ℕ, zero, suc, _-_, _%_, _^_, _≤_, _<_}
 use native.Mathlib.Nat.{not-suc-le-zero, le-of-suc-le-suc}
 use native.Mathlib.Omega.{arith}
 use borrow.Author.Tests.{lt-ltb, le-leb, eq-eqb}
-use lib.Dec.{ltb, leb, eqb}
 use lib.ListN.{length, getD, set, take, replicate, length-append, length-take, length-replicate}
-use lib.IntN.{ℤ, pos, negsuc, _+ℤ_}
-use Rattle.as_rust.specs.Machine.{Machine, i64, i32, usize, u32, less, as-signed, as-i32, as-isize, put, copy-from-slice, resize}
+use lib.IntN.{pos, negsuc}
+use Rattle.as_rust.specs.Machine.{Machine, i64, i32, usize, u32, less, as-i32, put, copy-from-slice, resize}
 
 module _ (m : Machine) where
   pub usize-is : (n : ℕ) → n < 2 ^ 64 → usize m n ≡ n

@@ -1,17 +1,17 @@
 -- The Rust's map: what `radon_response_u8` leaves in its buffers is document 01's working image, tables, response and scratch. Assumes nothing.
 use mathlib.Core.Path.{_≡_, refl, sym, ap, _∙_}
-use mathlib.Core.Bool.{Bool, true, false, cond}
+use mathlib.Core.Bool.{true, false, cond}
 use mathlib.Core.List.{List, [], _∷_, map}
-use Prim.Native.Nat.{ℕ, zero, suc, _+_, _-_, _*_, _/_, _%_, _^_, _≤_, _<_, min, max}
+use Prim.Native.Nat.{ℕ, zero, suc, _+_, _*_, _/_, _%_, _≤_, _<_, max}
 use native.Mathlib.Nat.{mul-comm, one-mul, le-of-suc-le-suc, not-suc-le-zero, mul-le-mul, div-add-mod'}
 use native.Mathlib.Omega.{arith}
 use native.Mathlib.Decide.{decLt}
 use borrow.Author.Tests.{le-ltb, lt-ltb, eq-eqb}
-use lib.Dec.{ltb, eqb}
+use lib.Dec.{ltb}
 use lib.ListN.{length, getD, take, List·getD-eq-default}
 use lib.IntN.{ℤ, pos}
 use lib.Ieee.{Float, nan}
-use Rattle.grid.specs.Fill.{filled, filled-ext, filled-intro, getD-filled, length-filled, filled-filled}
+use Rattle.grid.specs.Fill.{filled, filled-intro, getD-filled, length-filled, filled-filled}
 use Rattle.grid.specs.Plane.{plane, plane-ext, getD-plane, pixel-in}
 use Rattle.grid.specs.Ways.{Way, along, down, fall, rise, pixel, runSum, run-ext}
 use Rattle.params.specs.declared.RadonDetectorParams.{RadonDetectorParams}
@@ -23,22 +23,10 @@ use Rattle.response.specs.Inner.{response-ext}
 use Rattle.response.specs.Blur.{valueAt, rowMean, blurAt, scratched}
 use Rattle.response.specs.BlurLaws.{rowMean-ext, blurAt-ext}
 use Rattle.response.specs.Runs.{Runs, side-most}
-use Rattle.response.specs.Map.{Buffers, rawAt, mapAt, mappedBy, mapped, sideOf, workOf, mapOf}
+use Rattle.response.specs.Map.{Buffers, rawAt, mapAt, mappedBy, mapped, sideOf}
 use Rattle.as_rust.specs.Machine.{Machine, usize, copy-from-slice, resize}
-use Rattle.as_rust.specs.Response.{
-  RadonBuffers,
-  Cumsums,
-  image-upsample-clamped,
-  ray-radius-clamped,
-  ensure-capacity,
-  upsample-bilinear-2x,
-  sat-row,
-  sat-col,
-  sat-diag-pos,
-  sat-diag-neg,
-  compute-response,
-  radon-response-u8,
-}
+use Rattle.as_rust.specs.Response.{RadonBuffers, Cumsums, image-upsample-clamped, ensure-capacity, upsample-bilinear-2x, sat-row, sat-col,
+  sat-diag-pos, sat-diag-neg, compute-response, radon-response-u8}
 use Rattle.as_rust.specs.Primitives.{box-blur-inplace}
 use Rattle.as_rust.specs.Runs.{Bytes, SameMap}
 use Rattle.as_rust.proofs.Machine.{usize-is, copy-is, resize-long}

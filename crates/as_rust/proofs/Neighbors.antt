@@ -6,7 +6,7 @@ use Prim.Native.Nat.{ℕ, zero, suc, _+_, _-_, _*_, _^_, _≤_, _<_}
 use native.Mathlib.Omega.{arith}
 use borrow.Author.Tests.{ltb-true, ltb-false, eq-eqb, ne-eqb, le-ltb, lt-ltb, eqb-true}
 use lib.Dec.{ltb, eqb}
-use lib.ListN.{length, getD}
+use lib.ListN.{length}
 use lib.IntN.{ℤ, pos, negsuc, negℤ, _+ℤ_, _-ℤ_, +ℤ-assoc, +ℤ-comm}
 use lib.Ieee.{Float, nan, lt}
 use Rattle.grid.specs.Plane.{pixel-in}
@@ -14,7 +14,7 @@ use Rattle.grid.specs.Each.{any, any-none, any-append, count, count-none, count
 use Rattle.grid.specs.Rect.{Place, place, before, length-before}
 use Rattle.float.specs.Order.{lt-itself}
 use Rattle.detect.specs.Window.{value, at, same, beaten, positives}
-use Rattle.as_rust.specs.Machine.{Machine, lit-0, ltℤ, is-0, i32, u32, as-i32, as-usize, float-at, for, how-many, for-signed}
+use Rattle.as_rust.specs.Machine.{Machine, lit-0, is-0, i32, u32, float-at, for, how-many, for-signed}
 use Rattle.as_rust.specs.Neighbors.{outside, is-local-max, count-positive-neighbors}
 use Rattle.as_rust.proofs.Machine.{i32-is, i32-minus, i32-cast, u32-is, inside}
 use Rattle.as_rust.proofs.Loops.{for-shift, rect-loop}

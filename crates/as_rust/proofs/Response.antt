@@ -1,6 +1,6 @@
 -- The Rust's response from differences of prefix sums is (largest - smallest)² of the four direct ray sums, as the f32 of document 01. Assumes nothing.
 use mathlib.Core.Path.{_≡_, refl, sym, ap, _∙_}
-use mathlib.Core.Logic.{_⊎_, inl, inr}
+use mathlib.Core.Logic.{inl, inr}
 use mathlib.Core.Bool.{Bool, true, false, cond, _&&_, _||_}
 use mathlib.Core.List.{List}
 use Prim.Native.Nat.{ℕ, _+_, _-_, _*_, _^_, _≤_, _<_, min, max}
@@ -9,16 +9,17 @@ use native.Mathlib.Omega.{arith}
 use borrow.Author.Tests.{ltb-true, ltb-false, leb-true, leb-false}
 use lib.Dec.{ltb, leb}
 use lib.ListN.{length}
-use lib.IntN.{ℤ, pos, _+ℤ_, _-ℤ_, pos-+ℤ-pos, +ℤ-negℤ-cancel}
+use lib.IntN.{ℤ, pos, _-ℤ_, pos-+ℤ-pos, +ℤ-negℤ-cancel}
 use lib.Ieee.{Float}
 use Rattle.grid.specs.Fill.{filled}
 use Rattle.grid.specs.Plane.{plane}
 use Rattle.grid.specs.Loops.{Row}
-use Rattle.grid.specs.Ways.{Way, along, down, fall, rise, pixel, upTo, ray, Inside, endx, endy, lowx, lowy, Reach, none-past, run-at, ray-is, ray-most}
+use Rattle.grid.specs.Ways.{Way, along, down, fall, rise, pixel, upTo, ray, Inside, endx, endy, lowx, lowy, Reach, none-past, run-at, ray-is,
+  ray-most}
 use Rattle.response.specs.Response.{spread, square, responseAt}
 use Rattle.response.specs.Inner.{response-in, response-out}
-use Rattle.as_rust.specs.Machine.{Machine, lit-0, ltℤ, i64, usize, less, entry-at, put, for, chunks}
-use Rattle.as_rust.specs.Response.{Cumsums, radon-response-at, compute-response-row, compute-response}
+use Rattle.as_rust.specs.Machine.{Machine, lit-0, ltℤ, i64, less, entry-at, put, for, chunks}
+use Rattle.as_rust.specs.Response.{Cumsums, s-h, s-v, s-d1, s-d2, radon-response-at, compute-response-row, compute-response}
 use Rattle.as_rust.proofs.Machine.{usize-is, less-is, i64-is}
 use Rattle.as_rust.proofs.Tests.{and-true, and-false, or-true, or-false}
 use Rattle.as_rust.proofs.Loops.{rows-loop, row-part, fill-loop, chunks-are-rows}
@@ -135,60 +136,63 @@ module _ (m : Machine) (img : List ℕ) (cs : Cumsums) (b : Built img cs) (r : �
   abbrev f : ℕ → ℕ → ℕ
   f = pixel img (cs .w)
 
-  at-as-rust : (x y : ℕ) → Inside (cs .w) (cs .h) r x y → radon-response-at m cs r x y ≡ responseAt (pixel img (cs .w)) (cs .w) (cs .h) r x y
-  unfolding radon-response-at square
-  at-as-rust x y c =
-      rw (s-h, s-v, s-d1, s-d2)
-      (simp (greater, lesser, spread-is, i64-is m (spread (ray along f r x y) (ray down f r x y) (ray fall f r x y) (ray rise f r x y)) fits)
-      (response-in f w h r x y c refl refl refl refl))
-    where
-      fits : spread (ray along f r x y) (ray down f r x y) (ray fall f r x y) (ray rise f r x y) < 2 ^ 63
-      fits =
-          let most : (d : Way) → ray d f r x y ≤ 255 * (2 * r + 1) = λ d. ray-most d f 255 r x y (b .image .deep) in
-          omega (arith, spread-most (255 * (2 * r + 1)) _ _ _ _ (most along) (most down) (most fall) (most rise))
+  module _ (x y : ℕ) (c : Inside (cs .w) (cs .h) r x y) where
+    s-h-is : s-h m cs r x y ≡ pos (ray along f r x y)
+    unfolding s-h
+    s-h-is = ray-diff m img w h r x y (b .image) small c along (b .rows) (ltb r x) _ _ refl
+        (λ e.
+        let l : r < x = ltb-true r x e in
+        let n : y ≡ y + 1 - 1 = omega arith in
+        (omega arith, omega arith, omega arith, omega arith, λ i. n i * w + less-twice m r x l i))
+        (λ e. let l : x ≤ r = ltb-false r x e in (omega arith, omega arith))
 
-      s-h : i64 m (entry-at m (cs .row) (y * w + (x + r)) -ℤ cond (ltb r x) (entry-at m (cs .row) (y * w + less m (less m x r) 1)) (pos 0)) ≡ pos (ray along f r x y)
-      s-h = ray-diff m img w h r x y (b .image) small c along (b .rows) (ltb r x) _ _ refl
-          (λ e.
-          let l : r < x = ltb-true r x e in
-          let n : y + 1 - 1 ≡ y = omega arith in
-          (omega arith, omega arith, omega arith, omega arith, rw (less-twice m r x l, n)))
-          (λ e. let l : x ≤ r = ltb-false r x e in (omega arith, omega arith))
+    s-v-is : s-v m cs r x y ≡ pos (ray down f r x y)
+    unfolding s-v
+    s-v-is = ray-diff m img w h r x y (b .image) small c down (b .columns) (ltb r y) _ _ refl
+        (λ e.
+        let l : r < y = ltb-true r y e in
+        let n : x ≡ x + 1 - 1 = omega arith in
+        (omega arith, omega arith, omega arith, omega arith, λ i. less-twice m r y l i * w + n i))
+        (λ e. let l : y ≤ r = ltb-false r y e in (omega arith, omega arith))
 
-      s-v : i64 m (entry-at m (cs .col) ((y + r) * w + x) -ℤ cond (ltb r y) (entry-at m (cs .col) (less m (less m y r) 1 * w + x)) (pos 0)) ≡ pos (ray down f r x y)
-      s-v = ray-diff m img w h r x y (b .image) small c down (b .columns) (ltb r y) _ _ refl
-          (λ e.
-          let l : r < y = ltb-true r y e in
-          let n : x + 1 - 1 ≡ x = omega arith in
-          (omega arith, omega arith, omega arith, omega arith, rw (less-twice m r y l, n)))
-          (λ e. let l : y ≤ r = ltb-false r y e in (omega arith, omega arith))
+    s-d1-is : s-d1 m cs r x y ≡ pos (ray fall f r x y)
+    unfolding s-d1
+    s-d1-is = ray-diff m img w h r x y (b .image) small c fall (b .falling) (ltb r x && ltb r y) _ _ refl
+        (λ e.
+        let l : r < x = ltb-true r x (and-true (ltb r x) (ltb r y) e .0) in
+        let k : r < y = ltb-true r y (and-true (ltb r x) (ltb r y) e .1) in
+        (omega arith, omega arith, omega arith, omega arith, λ i. less-twice m r y k i * w + less-twice m r x l i))
+        (λ e. elim (and-false (ltb r x) (ltb r y) e) [
+          | inl u ↦ (omega arith, omega (arith, ltb-false r x u))
+          | inr u ↦ (omega arith, omega (arith, ltb-false r y u))
+        ])
 
-      s-d1 : i64 m (entry-at m (cs .diag-pos) ((y + r) * w + (x + r))
-          -ℤ cond (ltb r x && ltb r y) (entry-at m (cs .diag-pos) (less m (less m y r) 1 * w + less m (less m x r) 1)) (pos 0)) ≡ pos (ray fall f r x y)
-      s-d1 = ray-diff m img w h r x y (b .image) small c fall (b .falling) (ltb r x && ltb r y) _ _ refl
-          (λ e.
-          let l : r < x = ltb-true r x (and-true (ltb r x) (ltb r y) e .0) in
-          let k : r < y = ltb-true r y (and-true (ltb r x) (ltb r y) e .1) in
-          (omega arith, omega arith, omega arith, omega arith, rw (less-twice m r x l, less-twice m r y k)))
-          (λ e. elim (and-false (ltb r x) (ltb r y) e) [
-            | inl u ↦ (omega arith, omega (arith, ltb-false r x u))
-            | inr u ↦ (omega arith, omega (arith, ltb-false r y u))
-          ])
+    s-d2-is : s-d2 m cs r x y ≡ pos (ray rise f r x y)
+    unfolding s-d2
+    s-d2-is =
+        rw (usize-is m (x + r + 1) (omega (arith, c .right, b .image .wide)))
+        (ray-diff m img w h r x y (b .image) small c rise (b .rising) (ltb r y && ltb (x + r + 1) w) _ _ (λ i. (y + r) * w + less-is m x r (c .left) i)
+        (λ e.
+        let l : r < y = ltb-true r y (and-true (ltb r y) (ltb (x + r + 1) w) e .0) in
+        let k : x + r + 1 < w = ltb-true (x + r + 1) w (and-true (ltb r y) (ltb (x + r + 1) w) e .1) in
+        let n : x + r + 1 ≡ x + r + 1 + 1 - 1 = omega arith in
+        (omega arith, omega arith, omega arith, omega arith, λ i. less-twice m r y l i * w + n i))
+        (λ e. elim (and-false (ltb r y) (ltb (x + r + 1) w) e) [
+          | inl u ↦ (omega arith, omega (arith, ltb-false r y u))
+          | inr u ↦ (omega arith, omega (arith, ltb-false (x + r + 1) w u))
+        ]))
 
-      s-d2 : i64 m (entry-at m (cs .diag-neg) ((y + r) * w + less m x r)
-          -ℤ cond (ltb r y && ltb (usize m (x + r + 1)) w) (entry-at m (cs .diag-neg) (less m (less m y r) 1 * w + (x + r + 1))) (pos 0)) ≡ pos (ray rise f r x y)
-      s-d2 =
-          rw (usize-is m (x + r + 1) (omega (arith, c .right, b .image .wide)))
-          (ray-diff m img w h r x y (b .image) small c rise (b .rising) (ltb r y && ltb (x + r + 1) w) _ _ (rw (less-is m x r (c .left)))
-          (λ e.
-          let l : r < y = ltb-true r y (and-true (ltb r y) (ltb (x + r + 1) w) e .0) in
-          let k : x + r + 1 < w = ltb-true (x + r + 1) w (and-true (ltb r y) (ltb (x + r + 1) w) e .1) in
-          let n : x + r + 1 + 1 - 1 ≡ x + r + 1 = omega arith in
-          (omega arith, omega arith, omega arith, omega arith, rw (less-twice m r y l, n)))
-          (λ e. elim (and-false (ltb r y) (ltb (x + r + 1) w) e) [
-            | inl u ↦ (omega arith, omega (arith, ltb-false r y u))
-            | inr u ↦ (omega arith, omega (arith, ltb-false (x + r + 1) w u))
-          ]))
+    fits : spread (ray along f r x y) (ray down f r x y) (ray fall f r x y) (ray rise f r x y) < 2 ^ 63
+    fits =
+        let most : (d : Way) → ray d f r x y ≤ 255 * (2 * r + 1) = λ d. ray-most d f 255 r x y (b .image .deep) in
+        omega (arith, spread-most (255 * (2 * r + 1)) _ _ _ _ (most along) (most down) (most fall) (most rise))
+
+    at-as-rust : radon-response-at m cs r x y ≡ responseAt (pixel img (cs .w)) (cs .w) (cs .h) r x y
+    unfolding radon-response-at square
+    at-as-rust =
+        rw (s-h-is, s-v-is, s-d1-is, s-d2-is)
+        (simp (greater, lesser, spread-is, i64-is m (spread (ray along f r x y) (ray down f r x y) (ray fall f r x y) (ray rise f r x y)) fits)
+        (response-in f w h r x y c refl refl refl refl))
 
   -- ---- a row
 

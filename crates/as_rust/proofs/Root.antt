@@ -1,14 +1,12 @@
 -- The nearest f32 to a root is one, and it is document 01's `rootOf`: stated over fractions here, by patterns there. Assumes nothing.
-use mathlib.Core.Path.{_≡_, refl, sym, ap, _∙_, subst}
-use mathlib.Core.Logic.{inl, inr}
-use mathlib.Core.Bool.{Bool, true, false, true≢false}
-use Prim.Native.Nat.{ℕ, _+_, _*_, _^_, _≤_, _<_}
-use native.Mathlib.Nat.{mul-pos, mul-lt-mul-of-pos-right, lt-of-mul-lt-mul-right, lt-irrefl, lt-trans, lt-of-not-le, not-le-of-lt, eq-or-lt-of-le, zero-mul}
+use mathlib.Core.Path.{_≡_, refl, sym, ap, _∙_}
+use mathlib.Core.Bool.{true, false, true≢false}
+use Prim.Native.Nat.{ℕ, _+_, _*_, _^_, _<_}
+use native.Mathlib.Nat.{mul-pos, mul-lt-mul-of-pos-right, lt-of-mul-lt-mul-right, lt-irrefl, lt-trans, lt-of-not-le, not-le-of-lt}
 use native.Mathlib.Omega.{arith}
 use native.Mathlib.Decide.{decLt}
 use lib.Dec.{T, lit<}
-use lib.IntN.{ℤ}
-use lib.Ieee.{Float, nan, inf, fin, up, down, binary32, fits, toBits, ofBits}
+use lib.Ieee.{Float, nan, inf, fin, binary32, fits, toBits, ofBits}
 use lib.Ieee.Exact.{HasValue}
 use lib.Ieee.Fits.{down-pos}
 use lib.Ieee.Bits.{ofBits-toBits, ofBits-fits}

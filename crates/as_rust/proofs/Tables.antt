@@ -1,21 +1,21 @@
 -- The Rust's four prefix tables hold the running sums along the four ways, and no sum leaves i64. Assumes nothing.
 use mathlib.Core.Path.{_≡_, refl, sym, ap, _∙_}
-use mathlib.Core.Logic.{_⊎_, inl, inr}
+use mathlib.Core.Logic.{inl, inr}
 use mathlib.Core.Bool.{Bool, true, false, cond, _&&_}
 use mathlib.Core.List.{List}
-use Prim.Native.Nat.{ℕ, zero, suc, _+_, _-_, _*_, _/_, _%_, _^_, _≤_, _<_, min}
+use Prim.Native.Nat.{ℕ, _+_, _-_, _*_, _/_, _%_, _^_, _≤_, _<_, min}
 use native.Mathlib.Nat.{eq-or-lt-of-le, div-add-mod'}
 use native.Mathlib.Omega.{arith}
 use borrow.Author.Tests.{ltb-true, ltb-false}
 use lib.Dec.{ltb}
-use lib.ListN.{length, getD, set, length-set}
+use lib.ListN.{length, getD, length-set}
 use lib.Seq.{getD-set-same, getD-set-other}
 use lib.IntN.{ℤ, pos, _+ℤ_, pos-+ℤ-pos}
 use Rattle.grid.specs.Fill.{filled, filled-intro, length-filled}
 use Rattle.grid.specs.Plane.{plane, getD-plane, pixel-in, row-above, row-of, column-of, column-in, row-number-in}
-use Rattle.grid.specs.Loops.{Rows, Row, row-read}
+use Rattle.grid.specs.Loops.{Row, row-read}
 use Rattle.grid.specs.Ways.{Way, along, down, fall, rise, pixel, upTo, runSum, prevx, prevy, Reach, none-past, run-on, run-at, run-most}
-use Rattle.as_rust.specs.Machine.{Machine, i64, usize, less, byte-at, entry-at, put, for}
+use Rattle.as_rust.specs.Machine.{Machine, i64, usize, less, byte-at, entry-at, put}
 use Rattle.as_rust.specs.Response.{sat-row, sat-col, sat-diag-pos, sat-diag-neg}
 use Rattle.as_rust.proofs.Machine.{usize-is, less-is, i64-is, inside, put-is}
 use Rattle.as_rust.proofs.Tests.{and-true, and-false}

@@ -1,49 +1,29 @@
 -- The Rust's float upsampling is document 01's whole-number rule: every value on the way is an exact quarter. Assumes nothing.
-use mathlib.Core.Path.{_≡_, refl, sym, ap, _∙_}
-use mathlib.Core.Logic.{_⊎_, inl, inr}
-use mathlib.Core.Bool.{Bool, true, false, cond, _||_}
+use mathlib.Core.Path.{_≡_, refl, ap, _∙_}
+use mathlib.Core.Logic.{inl, inr}
+use mathlib.Core.Bool.{Bool, true, false, _||_}
 use mathlib.Core.List.{List}
-use Prim.Native.Nat.{ℕ, zero, suc, _+_, _-_, _*_, _/_, _%_, _^_, _≤_, _<_, min}
+use Prim.Native.Nat.{ℕ, zero, suc, _+_, _*_, _/_, _%_, _^_, _≤_, _<_, min}
 use native.Mathlib.Nat.{mod-lt, zero-mul, mul-zero}
 use native.Mathlib.Omega.{arith}
 use borrow.Author.Tests.{eqb-true}
 use lib.Dec.{eqb, lit<, lit≤}
-use lib.ListN.{length, getD}
+use lib.ListN.{length}
 use lib.IntN.{pos}
 use lib.Ieee.{Float, ofBits}
 use Rattle.grid.specs.Fill.{filled, filled-zero}
 use Rattle.grid.specs.Plane.{plane, pixel-in}
 use Rattle.grid.specs.Ways.{pixel}
 use Rattle.response.specs.Upsample.{weighted, after, upAt}
-use Rattle.as_rust.specs.Machine.{
-  Machine,
-  _⊕_,
-  _⊖_,
-  _⊗_,
-  lit-0,
-  lit-1,
-  lit-half,
-  lit-255,
-  floor,
-  rounded,
-  clamp,
-  maxℤ,
-  usize,
-  less,
-  as-usize,
-  as-f32,
-  to-isize,
-  to-u8,
-  byte-at,
-  put,
-  for,
-}
+use Rattle.as_rust.specs.Machine.{Machine, _⊕_, _⊖_, _⊗_, lit-0, lit-1, lit-half, lit-255, floor, rounded, clamp, maxℤ, usize, less,
+  as-usize, as-f32, to-isize, to-u8, byte-at}
 use Rattle.as_rust.specs.Response.{out-px, row-kernel, upsample-bilinear-2x}
 use Rattle.as_rust.specs.Runs.{Bytes}
 use Rattle.as_rust.proofs.Machine.{usize-is, less-is, inside}
 use Rattle.as_rust.proofs.Tests.{or-true, or-false, above-0}
 use Rattle.as_rust.proofs.Loops.{pixels-loop, chunks-are-rows}
-use Rattle.as_rust.proofs.Exact.{Val, val, add-val, sub-val, mul-val, finer, net, clamp-val, cast-val, floor-val, rounded-val, usize-val, u8-val}
+use Rattle.as_rust.proofs.Exact.{Val, val, add-val, sub-val, mul-val, finer, net, clamp-val, cast-val, floor-val, rounded-val, usize-val,
+  u8-val}
 
 -- ---- the literals
 
@@ -162,6 +142,10 @@ module _ (m : Machine) (src : List ℕ) (w h : ℕ) (small : Bytes src) (whole :
   reads : (x y : ℕ) → x < w → y < h → byte-at m src (y * w + x) ≡ pixel src w x y
   reads x y a b = inside src (y * w + x) _ 0 (omega (arith, pixel-in a b))
 
+  -- a byte that is read is one
+  reads-byte : (x y : ℕ) → x < w → y < h → byte-at m src (y * w + x) < 256
+  reads-byte x y a b = rw (reads x y a b) (small (y * w + x))
+
   px-as-rust : (ix iy : ℕ) → ix < 2 * w → iy < 2 * h
       → (let sy = as-f32 iy ⊗ lit-half in
       let y0f = floor sy in
@@ -169,18 +153,19 @@ module _ (m : Machine) (src : List ℕ) (w h : ℕ) (small : Bytes src) (whole :
       out-px m src w y0 (min (usize m (y0 + 1)) (less m h 1)) (clamp (sy ⊖ y0f) lit-0 lit-1) ix) ≡ upAt (pixel src w) w h ix iy
   unfolding out-px upAt
   px-as-rust ix iy bx by =
-      rw (
-        first-is ix (omega arith),
-        first-is iy (omega arith),
-        next-is ix (omega arith) m w (omega arith),
-        next-is iy (omega arith) m h (omega arith),
-        reads (ix / 2) (iy / 2) (omega arith) (omega arith),
-        reads (after w (ix / 2)) (iy / 2) (omega arith) (omega arith),
-        reads (ix / 2) (after h (iy / 2)) (omega arith) (omega arith),
-        reads (after w (ix / 2)) (after h (iy / 2)) (omega arith) (omega arith),
-      )
-      (kernel-is _ _ _ _ (small _) (small _) (small _) (small _) _ _ (ix % 2) (iy % 2) (mod-lt ix (lit< tt)) (mod-lt iy (lit< tt))
-      (weight-is ix (omega arith)) (weight-is iy (omega arith)))
+      let x0 = ix / 2 in
+      let y0 = iy / 2 in
+      let x1 = after w x0 in
+      let y1 = after h y0 in
+      let X0 : x0 < w = omega arith in
+      let Y0 : y0 < h = omega arith in
+      let X1 : x1 < w = omega arith in
+      let Y1 : y1 < h = omega arith in
+      rw (first-is ix (omega arith), first-is iy (omega arith), next-is ix (omega arith) m w (omega arith), next-is iy (omega arith) m h (omega arith))
+      (kernel-is (byte-at m src (y0 * w + x0)) (byte-at m src (y0 * w + x1)) (byte-at m src (y1 * w + x0)) (byte-at m src (y1 * w + x1))
+      (reads-byte x0 y0 X0 Y0) (reads-byte x1 y0 X1 Y0) (reads-byte x0 y1 X0 Y1) (reads-byte x1 y1 X1 Y1) _ _ (ix % 2) (iy % 2) (mod-lt ix (lit< tt)) (mod-lt iy (lit< tt))
+      (weight-is ix (omega arith)) (weight-is iy (omega arith))
+      ∙ (λ i. weighted (ix % 2) (iy % 2) (reads x0 y0 X0 Y0 i) (reads x1 y0 X1 Y0 i) (reads x0 y1 X0 Y1 i) (reads x1 y1 X1 Y1 i)))
 
   -- ---- the whole function
   pub upsample-as-rust : (out : List ℕ) → length out ≡ 2 * w * (2 * h) → upsample-bilinear-2x m src w h out ≡ filled (2 * w * (2 * h)) (plane (2 * w) (upAt (pixel src w) w h)) out

@@ -3,18 +3,18 @@ use mathlib.Core.Path.{_≡_, refl, sym, ap, _∙_}
 use mathlib.Core.Logic.{_⊎_, inl, inr}
 use mathlib.Core.Bool.{Bool, true, false, not, cond}
 use mathlib.Core.List.{List, [], _∷_, foldl}
-use Prim.Native.Nat.{ℕ, zero, suc, _+_, _*_, _^_, _≤_, _<_}
+use Prim.Native.Nat.{ℕ, zero, suc, _+_, _*_, _^_, _<_}
 use native.Mathlib.Nat.{zero-mul, mul-zero, mul-pos, div-add-mod'}
 use native.Mathlib.Omega.{arith}
 use borrow.Author.Tests.{le-ltb}
-use lib.Dec.{T, ltb, lit<, lit≤}
+use lib.Dec.{T, lit<, lit≤}
 use lib.ListN.{length, getD}
 use lib.IntN.{ℤ, pos, negsuc}
 use lib.Ieee.{Float, nan, inf, fin, binary32, up, down, unlike, ofBits, round, isNan, mul, lt, eq, le}
 use lib.Ieee.Exact.{HasValue}
 use lib.Ieee.Fits.{up-pos, down-pos, and-i}
 use Rattle.float.specs.Order.{le-lt-trans, le-of-not-lt, lt-itself, both-eq, no-factor}
-use Rattle.float.specs.Sized.{Sized, sized, Small, small, Held, held, small-of-le, mul-sized, mul-small, small-number}
+use Rattle.float.specs.Sized.{Sized, sized, Small, small, held, small-of-le, mul-sized, mul-small, small-number}
 use Rattle.float.specs.Product.{round-zero}
 use Rattle.grid.specs.Fold.{fold, fold-more, fold-ext}
 use Rattle.grid.specs.Plane.{plane}
@@ -22,7 +22,7 @@ use Rattle.detect.specs.PeakFit.{greatest, usable}
 use Rattle.detect.specs.Window.{value}
 use Rattle.detect.specs.Corners.{greater, peak}
 use Rattle.as_rust.specs.Machine.{Machine, _⊗_, lit-0, lit-1, neg-infinity, max-f32, is-finite}
-use Rattle.as_rust.specs.Detect.{relative-floor}
+use Rattle.as_rust.specs.Detect.{relative-floor, greatest as greatest-of}
 use Rattle.as_rust.proofs.Tests.{T-true}
 
 abbrev least : Float
@@ -132,8 +132,8 @@ module _ (vs : List Float) (w h : ℕ) (long : length vs ≡ w * h) (some : 0 < 
   unfolding plane
   flat-is k = sym (ap (λ (j : ℕ). getD vs j nan) (div-add-mod' k w))
 
-  pub peak-as-rust : foldl (λ max-r v. cond (lt max-r v) v max-r) neg-infinity vs ≡ peak w h (value vs w)
-  unfolding peak
+  pub peak-as-rust : greatest-of vs ≡ peak w h (value vs w)
+  unfolding peak greatest-of
   peak-as-rust = indexed neg-infinity vs ∙ rw long (go (w * h) refl some)
     where
       go : (n : ℕ) → n ≡ w * h → 0 < n → fold greater neg-infinity (λ k. getD vs k nan) n ≡ fold greater lit-0 (plane w (value vs w)) n

@@ -1,7 +1,7 @@
 -- radon/detect.rs to line 264, but for rayon and `retain_above_relative_threshold`; what a function uses stands before it here.
 use mathlib.Core.Bool.{Bool, not, cond, _||_, _&&_}
 use mathlib.Core.List.{List, [], _∷_, _++_, foldl}
-use Prim.Native.Nat.{ℕ, _+_, _-_, _*_}
+use Prim.Native.Nat.{ℕ, _+_, _*_}
 use lib.Dec.{ltb, leb, eqb}
 use lib.ListN.{length}
 use lib.IntN.{ℤ, pos, negℤ, _+ℤ_, _*ℤ_}
@@ -9,38 +9,8 @@ use lib.Ieee.{Float, lt, le}
 use Rattle.grid.specs.Each.{each, keep}
 use Rattle.grid.specs.Rect.{range}
 use Rattle.params.specs.declared.RadonDetectorParams.{RadonDetectorParams}
-use Rattle.as_rust.specs.Machine.{
-  Machine,
-  _⊕_,
-  _⊖_,
-  _⊗_,
-  _⊘_,
-  lit-0,
-  lit-1,
-  lit-4,
-  lit-16,
-  lit-0·2,
-  neg-infinity,
-  max-f32,
-  abs,
-  is-finite,
-  ltℤ,
-  maxℤ,
-  i32,
-  i64,
-  usize,
-  less,
-  as-i32,
-  as-isize,
-  as-usize,
-  as-f32,
-  as-f32-signed,
-  wrapping-add-signed,
-  byte-at,
-  float-at,
-  for,
-  how-many,
-}
+use Rattle.as_rust.specs.Machine.{Machine, _⊕_, _⊖_, _⊗_, _⊘_, lit-0, lit-1, lit-4, lit-16, lit-0·2, neg-infinity, max-f32, abs, is-finite,
+  ltℤ, maxℤ, i32, i64, usize, less, as-i32, as-isize, as-usize, as-f32, as-f32-signed, wrapping-add-signed, byte-at, float-at, for, how-many}
 use Rattle.as_rust.specs.Primitives.{fit-peak-frac}
 use Rattle.as_rust.specs.Response.{RadonResponseView, image-upsample-clamped, ray-radius-clamped}
 use Rattle.as_rust.specs.Neighbors.{is-local-max, count-positive-neighbors}
@@ -139,18 +109,26 @@ process-pixel m resp params saddle thr nms-r inv-up y x sink =
     let gy = (as-f32 y ⊕ fy) ⊗ inv-up in
     sink ++ ((gx ∷ gy ∷ v ∷ []) ∷ [])))))
 
+-- 54-59
+unfoldable pub greatest : List Float → Float
+greatest vs = foldl (λ max-r v. cond (lt max-r v) v max-r) neg-infinity vs
+
+-- 70
+unfoldable pub border-of : Machine → ℤ → ℤ → ℕ
+border-of m ray-r nms-r = as-usize (maxℤ (i32 m (i32 m (ray-r +ℤ nms-r) +ℤ pos 1)) (pos 0))
+
 -- 42-145. An early return is a branch.
 unfoldable pub detect-peaks-from-radon : Machine → RadonResponseView → RadonDetectorParams → List (List Float)
 detect-peaks-from-radon m resp params =
     let w = resp .w in
     let h = resp .h in
     cond (eqb w 0 || eqb h 0) []
-    (let max-r = foldl (λ max-r v. cond (lt max-r v) v max-r) neg-infinity (resp .«data») in
+    (let max-r = greatest (resp .«data») in
     cond (not (is-finite max-r)) []
     (let thr = relative-floor m (params .«threshold_rel») max-r in
     let nms-r = as-i32 (params .«nms_radius») in
     let ray-r = as-i32 (ray-radius-clamped params) in
-    let border = as-usize (maxℤ (i32 m (i32 m (ray-r +ℤ nms-r) +ℤ pos 1)) (pos 0)) in
+    let border = border-of m ray-r nms-r in
     cond (leb w (usize m (2 * border)) || leb h (usize m (2 * border))) []
     (let inv-up = lit-1 ⊘ as-f32 (image-upsample-clamped params) in
     let saddle = new m (as-usize ray-r) in

@@ -6,24 +6,31 @@ use lib.Dec.{eqb}
 use lib.Ieee.{Float, lt}
 use Rattle.params.specs.declared.PeakFitMode.{PeakFitMode}
 use Rattle.params.specs.declared.PeakFitMode.the-variants.{Parabolic, Gaussian}
-use Rattle.as_rust.specs.Machine.{Machine, _⊕_, _⊖_, _⊗_, _⊘_, lit-0, lit-1, lit-2, lit-half, lit-minus-half, lit-minus-1e-12, clamp, usize, less, as-f32, float-at, put, for, chunks}
+use Rattle.as_rust.specs.Machine.{Machine, _⊕_, _⊖_, _⊗_, _⊘_, lit-0, lit-1, lit-2, lit-half, lit-minus-half, lit-minus-1e-12, clamp, usize,
+  less, as-f32, float-at, put, for, chunks}
 
 -- 18-26: `PeakFitMode` is the settings' own type, by the same two names
 abbrev pub is-gaussian : PeakFitMode → Bool
 is-gaussian Parabolic = false
 is-gaussian Gaussian = true
 
--- 37-53. The match with a guard is a condition; the early return is a branch.
+-- 44-52, the end of `fit_peak_frac`. The early return is a branch.
+unfoldable pub peak-frac : Float → Float → Float → Float
+peak-frac ym y0 yp =
+    let denom = ym ⊖ lit-2 ⊗ y0 ⊕ yp in
+    cond (lt lit-minus-1e-12 denom) lit-0
+    (let frac = lit-half ⊗ (ym ⊖ yp) ⊘ denom in
+    clamp frac lit-minus-half lit-half)
+
+-- 37-53. The match with a guard is a condition.
 unfoldable pub fit-peak-frac : Machine → Float → Float → Float → PeakFitMode → Float
+unfolding peak-frac
 fit-peak-frac m y-minus y-c y-plus mode =
     let logs = is-gaussian mode && (lt lit-0 y-minus && (lt lit-0 y-c && lt lit-0 y-plus)) in
     let ym = cond logs (m .ln y-minus) y-minus in
     let y0 = cond logs (m .ln y-c) y-c in
     let yp = cond logs (m .ln y-plus) y-plus in
-    let denom = ym ⊖ lit-2 ⊗ y0 ⊕ yp in
-    cond (lt lit-minus-1e-12 denom) lit-0
-    (let frac = lit-half ⊗ (ym ⊖ yp) ⊘ denom in
-    clamp frac lit-minus-half lit-half)
+    peak-frac ym y0 yp
 
 -- 145-158, the closure `horiz_kernel`: the row is the part of scratch from `at` on, n floats; `w` and `radius` are the function's.
 -- 148: `x.saturating_sub(radius)` is ℕ's subtraction.

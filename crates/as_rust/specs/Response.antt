@@ -1,46 +1,15 @@
 -- radon/response.rs, but for what runs only with the features rayon, simd or radon-sat-u32, serde and `to_response_map`. `debug_assert_eq!` is no part of a release build.
 use mathlib.Core.Bool.{cond, _&&_, _||_}
 use mathlib.Core.List.{List, [], _∷_, foldl}
-use Prim.Native.Nat.{ℕ, _+_, _-_, _*_, min, max}
+use Prim.Native.Nat.{ℕ, _+_, _*_, min, max}
 use lib.Dec.{ltb, leb, eqb}
 use lib.ListN.{length}
 use lib.IntN.{ℤ, pos, _+ℤ_, _-ℤ_}
 use lib.Ieee.{Float}
 use Rattle.params.specs.declared.RadonDetectorParams.{RadonDetectorParams}
 use Rattle.params.specs.declared.PeakFitMode.the-variants.{Gaussian}
-use Rattle.as_rust.specs.Machine.{
-  Machine,
-  _⊕_,
-  _⊖_,
-  _⊗_,
-  lit-0,
-  lit-1,
-  lit-half,
-  lit-255,
-  lit-0·28,
-  floor,
-  rounded,
-  clamp,
-  ltℤ,
-  maxℤ,
-  i64,
-  usize,
-  less,
-  as-usize,
-  as-f32,
-  as-f32-signed,
-  to-isize,
-  to-u8,
-  byte-at,
-  entry-at,
-  float-at,
-  put,
-  copy-from-slice,
-  resize,
-  times,
-  for,
-  chunks,
-}
+use Rattle.as_rust.specs.Machine.{Machine, _⊕_, _⊖_, _⊗_, lit-0, lit-1, lit-half, lit-255, lit-0·28, floor, rounded, clamp, ltℤ, maxℤ, i64,
+  usize, less, as-usize, as-f32, as-f32-signed, to-isize, to-u8, byte-at, entry-at, float-at, put, copy-from-slice, resize, for, chunks}
 use Rattle.as_rust.specs.Primitives.{box-blur-inplace}
 
 -- 38-41: `SatElem` is i64, `SatElem::default()` is 0 and `SatElem::from(b)` the byte b
@@ -201,23 +170,44 @@ pub record Cumsums : Type 0 where
 abbrev pub sat-to-f32 : ℤ → Float
 sat-to-f32 v = as-f32-signed v
 
--- 323-369. 359-366: the loop over `&s[1..]` with its two variables is a fold with a pair.
-unfoldable pub radon-response-at : Machine → Cumsums → ℕ → ℕ → ℕ → Float
-radon-response-at m cs r x y =
+-- 323-369, with the four locals as functions. 325-331
+unfoldable pub s-h : Machine → Cumsums → ℕ → ℕ → ℕ → ℤ
+s-h m cs r x y =
     let w = cs .w in
     let s-h-hi = entry-at m (cs .row) (y * w + (x + r)) in
     let s-h-lo = cond (ltb r x) (entry-at m (cs .row) (y * w + less m (less m x r) 1)) (pos 0) in
-    let s-h = i64 m (s-h-hi -ℤ s-h-lo) in
+    i64 m (s-h-hi -ℤ s-h-lo)
+
+-- 333-339
+unfoldable pub s-v : Machine → Cumsums → ℕ → ℕ → ℕ → ℤ
+s-v m cs r x y =
+    let w = cs .w in
     let s-v-hi = entry-at m (cs .col) ((y + r) * w + x) in
     let s-v-lo = cond (ltb r y) (entry-at m (cs .col) (less m (less m y r) 1 * w + x)) (pos 0) in
-    let s-v = i64 m (s-v-hi -ℤ s-v-lo) in
+    i64 m (s-v-hi -ℤ s-v-lo)
+
+-- 341-347
+unfoldable pub s-d1 : Machine → Cumsums → ℕ → ℕ → ℕ → ℤ
+s-d1 m cs r x y =
+    let w = cs .w in
     let s-d1-hi = entry-at m (cs .diag-pos) ((y + r) * w + (x + r)) in
     let s-d1-lo = cond (ltb r x && ltb r y) (entry-at m (cs .diag-pos) (less m (less m y r) 1 * w + less m (less m x r) 1)) (pos 0) in
-    let s-d1 = i64 m (s-d1-hi -ℤ s-d1-lo) in
+    i64 m (s-d1-hi -ℤ s-d1-lo)
+
+-- 349-355
+unfoldable pub s-d2 : Machine → Cumsums → ℕ → ℕ → ℕ → ℤ
+s-d2 m cs r x y =
+    let w = cs .w in
     let s-d2-hi = entry-at m (cs .diag-neg) ((y + r) * w + less m x r) in
     let s-d2-lo = cond (ltb r y && ltb (usize m (x + r + 1)) w) (entry-at m (cs .diag-neg) (less m (less m y r) 1 * w + (x + r + 1))) (pos 0) in
-    let s-d2 = i64 m (s-d2-hi -ℤ s-d2-lo) in
-    let s : ℤ × ℤ = foldl (λ s v. (cond (ltℤ (s .0) v) v (s .0), cond (ltℤ v (s .1)) v (s .1))) (s-h, s-h) (s-v ∷ s-d1 ∷ s-d2 ∷ []) in
+    i64 m (s-d2-hi -ℤ s-d2-lo)
+
+-- 357-368. 359-366: the loop over `&s[1..]` with its two variables mx and mn is a fold with a pair.
+unfoldable pub radon-response-at : Machine → Cumsums → ℕ → ℕ → ℕ → Float
+radon-response-at m cs r x y =
+    let s : ℤ × ℤ =
+    foldl (λ s v. (cond (ltℤ (s .0) v) v (s .0), cond (ltℤ v (s .1)) v (s .1))) (s-h m cs r x y, s-h m cs r x y)
+    (s-v m cs r x y ∷ s-d1 m cs r x y ∷ s-d2 m cs r x y ∷ []) in
     let d = sat-to-f32 (i64 m (s .0 -ℤ s .1)) in
     d ⊗ d
 
@@ -243,7 +233,7 @@ compute-response m cs ray-radius out =
     (for 0 (length out) (λ i out. put out i lit-0) out)
     (chunks w (λ y at n out. compute-response-row m cs ray-radius y at n out) out)
 
--- 636-641
+-- 636-641; the parameter `up` is not used
 abbrev pub upsample-bilinear-2x-if-needed : Machine → List ℕ → ℕ → ℕ → List ℕ → List ℕ
 upsample-bilinear-2x-if-needed m img w h out = upsample-bilinear-2x m img w h (resize out (usize m (4 * w * h)) 0)
 

@@ -1,17 +1,15 @@
 -- What is claimed: a call of ours and a run of the Rust's two functions, over any buffers of the Rust's, leave the same. Ours is what the contracts say (crates/radon/specs/Finder,
 -- crates/response/specs/Map); the Rust's is the text of this folder.
 use mathlib.Core.Path.{_≡_}
-use mathlib.Core.Bool.{Bool}
 use mathlib.Core.List.{List, map}
 use Prim.Native.Nat.{ℕ, _*_, _<_}
 use lib.Dec.{T}
 use lib.ListN.{length, getD, take}
-use lib.IntN.{ℤ, pos}
+use lib.IntN.{pos}
 use lib.Ieee.{Float, lt}
 use Rattle.grid.specs.Ways.{pixel}
 use Rattle.grid.specs.Over.{written}
 use Rattle.params.specs.declared.RadonDetectorParams.{RadonDetectorParams}
-use Rattle.params.specs.declared.PeakFitMode.the-variants.{Gaussian}
 use Rattle.params.specs.declared.Outcome.{Outcome}
 use Rattle.scalar.specs.Log.{logOf, terms, high}
 use Rattle.scalar.specs.declared.Log.the-variants.{Value}
