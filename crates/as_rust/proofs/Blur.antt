@@ -55,7 +55,7 @@ module _ (m : Machine) (resp : List Float) (w h r : ℕ) (l : r ≤ 3) (whole : 
         fold-on (add binary32) lit-0 g (i - (x - r)) (i + 1 - (x - r)) n (rw k (inside resp (y * w + i) _ nan (omega (arith, room)))) (t .0),
         rw n (ap (λ (n : Float). n ⊕ lit-1) (t .1) ∙ count-on (i - (x - r)) (omega arith)),
       )) in
-      rw (s .0, s .1))
+      (λ i. s .0 i ⊘ s .1 i))
     where
       g : ℕ → Float
       g k = valueAt resp w (x - r + k) y

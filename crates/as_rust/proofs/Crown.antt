@@ -35,8 +35,7 @@ use Rattle.response.specs.Upsample.{workAt}
 use Rattle.response.specs.Response.{square, raySpread, within, responseAt}
 use Rattle.response.specs.Blur.{columnMean, blurAt}
 use Rattle.response.specs.Runs.{Runs, runs-of}
-use Rattle.response.specs.Map.{Buffers as MapBuffers, answered as map-answered, buffersOf as map-buffersOf, mappedBy, rawAt, mapAt, workOf, mapOf,
-  sideOf, roomOf}
+use Rattle.response.specs.Map.{Buffers as MapBuffers, answered as map-answered, buffersOf as map-buffersOf, mappedOf, mappedBy, rawAt, mapAt, workOf, mapOf, sideOf, roomOf}
 use Rattle.response.specs.MapFacts.{map-range}
 use Rattle.detect.specs.Window.{value}
 use Rattle.detect.specs.Corners.{borderOf, corners, numbers, stride}
@@ -46,12 +45,12 @@ use Rattle.radon.proofs.Cases.{runs-by}
 use Rattle.as_rust.specs.Machine.{Machine, Sound, lit-minus-0}
 use Rattle.as_rust.specs.Response.{default, RadonBuffers, RadonResponseView, view, radon-response-u8}
 use Rattle.as_rust.specs.Detect.{detect-peaks-from-radon}
-use Rattle.as_rust.specs.Runs.{Bytes, SameMap, SameList, LogIsOurs, found-by}
+use Rattle.as_rust.specs.Runs.{Bytes, SameMap, SameFound, SameList, numbers-by, LogIsOurs, found-by}
 use Rattle.as_rust.proofs.Tests.{T-true}
 use Rattle.as_rust.proofs.Map.{Left, map-as-rust}
 use Rattle.as_rust.proofs.Root.{nearest-root, nearest-roots}
 use Rattle.as_rust.proofs.Values.{Good}
-use Rattle.as_rust.proofs.Detect.{listed, Viewed, detect-as-rust}
+use Rattle.as_rust.proofs.Detect.{listed, Held, Viewed, numbers-as-rust, detect-as-rust}
 
 -- ---- the settings
 
@@ -79,29 +78,32 @@ map-fits factor ray blur f w h x y = blur-fits (rawAt factor ray f w h) (factor 
 
 -- ---- two maps and two images that agree inside have the same list
 
-module _ (p : RadonDetectorParams) (w h : ℕ) (f g : ℕ → ℕ → Float) (a b : ℕ → ℕ → ℕ) (e : (x y : ℕ) → x < w → y < h → f x y ≡ g x y) (d : (x y : ℕ) → x < w → y < h → a x y ≡ b x y) where
+module _ (m : Machine) (p : RadonDetectorParams) (w h : ℕ) where
   abbrev Candidate : Place → Type 0
   Candidate q = InRect (borderOf p) (w - borderOf p) (borderOf p) (h - borderOf p) q
 
-  numbers-at : (q : Place) → Candidate q → numbers p f q ∷ [] ≡ numbers p g q ∷ []
-  unfolding numbers
-  numbers-at q c =
-      let u : (x y : ℕ) → x < w → y < h → f x y ≡ g x y = e in
-      rw (
-        u (q .x) (q .y) (omega arith) (omega arith),
-        u (q .x - 1) (q .y) (omega arith) (omega arith),
-        u (q .x + 1) (q .y) (omega arith) (omega arith),
-        u (q .x) (q .y - 1) (omega arith) (omega arith),
-        u (q .x) (q .y + 1) (omega arith) (omega arith),
-      )
-
-  listed-same : listed p w h f a ≡ listed p w h g b
+  -- numbers that agree at every candidate
+  numbers-same : (a b : Place → List Float) (f : ℕ → ℕ → Float) (g : ℕ → ℕ → ℕ) → ((q : Place) → Candidate q → a q ≡ b q)
+      → each (λ q. a q ∷ []) (corners p w h f g) ≡ each (λ q. b q ∷ []) (corners p w h f g)
   unfolding corners
-  listed-same =
-      ap (each (λ q. numbers p f q ∷ [])) (corners-same p w h f g a b e d)
-      ∙ each-same _ _ (corners p w h g b)
-      (all-map Candidate (λ q. numbers p f q ∷ [] ≡ numbers p g q ∷ []) numbers-at (corners p w h g b)
+  numbers-same a b f g e =
+      each-same _ _ (corners p w h f g)
+      (all-map Candidate (λ q. a q ∷ [] ≡ b q ∷ []) (λ q c. ap (λ (n : List Float). n ∷ []) (e q c)) (corners p w h f g)
       (all-keep Candidate _ _ (all-rect (borderOf p) (w - borderOf p) (borderOf p) (h - borderOf p))))
+
+  listed-same : (f g : ℕ → ℕ → Float) (a b : ℕ → ℕ → ℕ) → ((x y : ℕ) → x < w → y < h → f x y ≡ g x y) → ((x y : ℕ) → x < w → y < h → a x y ≡ b x y)
+      → listed m p w h f a ≡ listed m p w h g b
+  listed-same f g a b e d = ap (each (λ q. numbers-by m p f q ∷ [])) (corners-same p w h f g a b e d) ∙ numbers-same (numbers-by m p f) (numbers-by m p g) g b at
+    where
+      at : (q : Place) → Candidate q → numbers-by m p f q ≡ numbers-by m p g q
+      at q c = unfold numbers-by in
+          rw (
+            e (q .x) (q .y) (omega arith) (omega arith),
+            e (q .x - 1) (q .y) (omega arith) (omega arith),
+            e (q .x + 1) (q .y) (omega arith) (omega arith),
+            e (q .x) (q .y - 1) (omega arith) (omega arith),
+            e (q .x) (q .y + 1) (omega arith) (omega arith),
+          )
 
 -- a list of corners, each with its numbers, written as far as they fit
 written-each : {A B : Type 0} (k : ℕ) (f : A → List B) (l : List A) (old : List B) → written k f l old ≡ written k (λ corner. corner) (each (λ a. f a ∷ []) l) old
@@ -125,6 +127,12 @@ module _ (m : Machine) (img : List ℕ) (w h : ℕ) (p : RadonDetectorParams) (s
       → SameMap (sideOf w p) (sideOf h p) (p .«response_blur_radius») (map-buffersOf img w h p b) (radon-response-u8 m img w h p rust)
   unfolding map-buffersOf
   map-is-the-rusts b z = rw (eq-eqb (numberOf (map-answered img w h p b)) 0 z) (map-as-rust m img w h p b small (runs-of w h p (length img) b refl refl refl z) rust .same)
+
+  -- W and H too
+  pub map-sizes-are-the-rusts : (b : MapBuffers) → numberOf (map-answered img w h p b) ≡ 0
+      → ((mappedOf img w h p b) .w ≡ (radon-response-u8 m img w h p rust) .working-w) × ((mappedOf img w h p b) .h ≡ (radon-response-u8 m img w h p rust) .working-h)
+  unfolding mappedOf
+  map-sizes-are-the-rusts b z = rw (eq-eqb (numberOf (map-answered img w h p b)) 0 z) (sym (map-is-the-rusts b z .width), sym (map-is-the-rusts b z .height))
 
   -- ---- the finder
 
@@ -195,34 +203,49 @@ module _ (m : Machine) (img : List ℕ) (w h : ℕ) (p : RadonDetectorParams) (s
             map-range (factorOf (p .«image_upsample»)) (rayOf (p .«ray_radius»)) (p .«response_blur_radius») (pixel img w) w h
             (λ x y. omega (arith, small (y * w + x))) (runs .ray-most) (runs .blur-most) (k % W) (k / W) (column-in W H c) (row-number-in W H c)
 
-    module _ (sound : Sound m) (logs : p .«peak_fit» ≡ Gaussian → LogIsOurs m img w h p) where
-      -- the Rust's corners with their numbers are ours
-      corners-are : found-by m p after ≡ each (λ q. numbers p f q ∷ []) (found (pixel img w) w h p)
+    map-held : (x y : ℕ) → x < W → y < H → Held (f x y)
+    map-held x y c d = (
+      map-range (factorOf (p .«image_upsample»)) (rayOf (p .«ray_radius»)) (p .«response_blur_radius») (pixel img w) w h
+          (λ x y. omega (arith, small (y * w + x))) (runs .ray-most) (runs .blur-most) x y c d,
+      map-fits (factorOf (p .«image_upsample»)) (rayOf (p .«ray_radius»)) (p .«response_blur_radius») (pixel img w) w h x y,
+    )
+
+    module _ (sound : Sound m) where
+      corners-are : found-by m p after ≡ each (λ q. numbers-by m p f q ∷ []) (found (pixel img w) w h p)
       unfolding found
       corners-are =
           let a = all-accepted w h (length img) p (roomOf (b .map)) z in
           ap (λ (v : RadonResponseView). detect-peaks-from-radon m v p) seen-is
-          ∙ detect-as-rust m sound seen p viewed (a .1 .ray) (a .2) (λ e x y c d. rw (value-at x y c d) (logs e x y c d))
-          ∙ listed-same p W H (value (after .response) W) f (pixel (after .working) W) (workOf (pixel img w) w h p) value-at pixel-at
+          ∙ detect-as-rust m sound seen p viewed (a .1 .ray) (a .2)
+          ∙ listed-same m p W H (value (after .response) W) f (pixel (after .working) W) (workOf (pixel img w) w h p) value-at pixel-at
 
-      -- count, W, H and list are those of the Rust's text
-      pub finder-lists-the-rusts-corners : SameList (outcomeOf img w h p b) (b .list) ((buffersOf img w h p b) .list)
+      -- Whatever the machine's logarithm is: count, W and H, the places of the corners and their strengths are those of the Rust's text
+      pub finder-finds-the-rusts-corners : SameFound (outcomeOf img w h p b) (found (pixel img w) w h p) (numbers-by m p (mapOf (pixel img w) w h p))
           (radon-response-u8 m img w h p rust) (found-by m p (radon-response-u8 m img w h p rust))
-      unfolding outcomeOf buffersOf
-      finder-lists-the-rusts-corners =
-          let n = length-each 1 (λ q. numbers p f q ∷ []) (λ q. refl) (found (pixel img w) w h p) ∙ one-mul (length (found (pixel img w) w h p)) in
+      unfolding outcomeOf
+      finder-finds-the-rusts-corners =
+          let n = length-each 1 (λ q. numbers-by m p f q ∷ []) (λ q. refl) (found (pixel img w) w h p) ∙ one-mul (length (found (pixel img w) w h p)) in
           rw (eq-eqb (numberOf (answered img w h p b)) 0 z)
-          (record {
-            count = sym (ap length corners-are ∙ n);
-            width = sym (left .same .width);
-            height = sym (left .same .height);
-            corners = written-each stride (numbers p f) (found (pixel img w) w h p) (b .list) ∙ ap (λ (l : List (List Float)). written stride (λ corner. corner) l (b .list)) (sym corners-are);
-          })
+          (record { count = sym (ap length corners-are ∙ n); width = sym (left .same .width); height = sym (left .same .height); corners = corners-are })
 
-    -- parabolic mode outright: no logarithm is asked
-    pub finder-lists-the-rusts-corners-parabolic : Sound m → p .«peak_fit» ≡ Parabolic → SameList (outcomeOf img w h p b) (b .list) ((buffersOf img w h p b) .list)
-        (radon-response-u8 m img w h p rust) (found-by m p (radon-response-u8 m img w h p rust))
-    finder-lists-the-rusts-corners-parabolic sound e = finder-lists-the-rusts-corners sound (λ g. let n : _≡_ {A = ℕ} 0 1 = cc in absurd (omega arith))
+      -- and where it is asked and is ours, so is every number of the list
+      pub finder-lists-the-rusts-corners : (p .«peak_fit» ≡ Gaussian → LogIsOurs m img w h p)
+          → SameList (b .list) ((buffersOf img w h p b) .list) (found-by m p (radon-response-u8 m img w h p rust))
+      unfolding buffersOf
+      finder-lists-the-rusts-corners logs =
+          rw (eq-eqb (numberOf (answered img w h p b)) 0 z)
+          (written-each stride (numbers p f) (found (pixel img w) w h p) (b .list)
+          ∙ ap (λ (l : List (List Float)). written stride (λ corner. corner) l (b .list)) (sym (corners-are ∙ ours-too)))
+        where
+          at : (q : Place) → InRect (borderOf p) (W - borderOf p) (borderOf p) (H - borderOf p) q → numbers-by m p f q ≡ numbers p f q
+          at q c = numbers-as-rust m p W H f map-held logs (q .x) (q .y) (omega arith) (omega arith) (omega arith) (omega arith)
+
+          ours-too : each (λ q. numbers-by m p f q ∷ []) (found (pixel img w) w h p) ≡ each (λ q. numbers p f q ∷ []) (found (pixel img w) w h p)
+          ours-too = unfold found in numbers-same m p W H (numbers-by m p f) (numbers p f) f (workOf (pixel img w) w h p) at
+
+      -- in parabolic mode no logarithm is asked
+      pub finder-lists-the-rusts-corners-parabolic : p .«peak_fit» ≡ Parabolic → SameList (b .list) ((buffersOf img w h p b) .list) (found-by m p (radon-response-u8 m img w h p rust))
+      finder-lists-the-rusts-corners-parabolic e = finder-lists-the-rusts-corners (λ g. let n : _≡_ {A = ℕ} 0 1 = cc in absurd (omega arith))
 
 -- ---- there is such a machine: with our root and our logarithm, and anything in place of a panic
 

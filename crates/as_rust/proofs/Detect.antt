@@ -28,11 +28,11 @@ use Rattle.detect.specs.Window.{value, beaten, positives}
 use Rattle.detect.specs.declared.saddle.Saddle.{Saddle}
 use Rattle.detect.specs.Corners.{borderOf, candidates, peak, floorOf, firstFailing, bySaddle, isSaddle, isKept, verdict, corners, inputAt, numbers}
 use Rattle.detect.proofs.AsRust.{rustClamp, rustPeak, fit-as-rust as clamped-fit}
-use Rattle.as_rust.specs.Machine.{Machine, Sound, _⊕_, _⊖_, _⊗_, _⊘_, lit-0, lit-1, lit-half, lit-minus-half, clamp, maxℤ, i32, usize,
-  as-i32, as-usize, as-f32, float-at}
+use Rattle.as_rust.specs.Machine.{Machine, Sound, _⊖_, _⊗_, _⊘_, lit-0, lit-1, lit-half, lit-minus-half, clamp, maxℤ, i32, usize, as-i32, as-usize, as-f32, float-at}
 use Rattle.as_rust.specs.Primitives.{peak-frac, fit-peak-frac}
 use Rattle.as_rust.specs.Response.{RadonResponseView}
 use Rattle.as_rust.specs.Detect.{relative-floor, new, border-of, process-pixel, detect-peaks-from-radon}
+use Rattle.as_rust.specs.Runs.{numbers-by}
 use Rattle.as_rust.proofs.Machine.{usize-is, less-is, i32-is, i32-cast, inside}
 use Rattle.as_rust.proofs.Tests.{T-true, or-true, or-false, above-0}
 use Rattle.as_rust.proofs.Loops.{rect-loop}
@@ -71,7 +71,7 @@ three true false c t = absurd t
 three false b c t = absurd t
 
 -- a map's value, of the format
-abbrev Held : Float → Type 0
+abbrev pub Held : Float → Type 0
 Held v = Good v × T (fits binary32 v)
 
 module _ (m : Machine) (a c b : Float) (A : Held a) (C : Held c) (B : Held b) where
@@ -129,11 +129,30 @@ low : (w h b : ℕ) → h ≤ 2 * b → candidates w h b ≡ []
 unfolding rect
 low w h b l = rw (none-range b (h - b) (omega arith)) (each-none _)
 
+-- ---- 103-116: the three numbers are document 01's where the logarithms are
+
+module _ (m : Machine) (p : RadonDetectorParams) (w h : ℕ) (f : ℕ → ℕ → Float) (held : (x y : ℕ) → x < w → y < h → Held (f x y))
+    (logs : p .«peak_fit» ≡ Gaussian → (x y : ℕ) → x < w → y < h → Logs m (f x y)) where
+  pub numbers-as-rust : (x y : ℕ) → 1 ≤ x → x + 1 < w → 1 ≤ y → y + 1 < h → numbers-by m p f (place x y) ≡ numbers p f (place x y)
+  unfolding numbers-by numbers inputAt toInput
+  numbers-as-rust x y a b c d =
+      let X : x < w = omega arith in
+      let Y : y < h = omega arith in
+      let L : x - 1 < w = omega arith in
+      let A : y - 1 < h = omega arith in
+      rw (
+        scale-as-rust (p .«image_upsample»),
+        fit-as-rust m (f (x - 1) y) (f x y) (f (x + 1) y) (held (x - 1) y L Y) (held x y X Y) (held (x + 1) y b Y) (p .«peak_fit»)
+            (λ e. (logs e (x - 1) y L Y, logs e x y X Y, logs e (x + 1) y b Y)),
+        fit-as-rust m (f x (y - 1)) (f x y) (f x (y + 1)) (held x (y - 1) X A) (held x y X Y) (held x (y + 1) X d) (p .«peak_fit»)
+            (λ e. (logs e x (y - 1) X A, logs e x y X Y, logs e x (y + 1) X d)),
+      )
+
 -- ---- the list
 
--- the corners with their numbers, each three floats
-abbrev pub listed : RadonDetectorParams → ℕ → ℕ → (ℕ → ℕ → Float) → (ℕ → ℕ → ℕ) → List (List Float)
-listed p w h f g = each (λ q. numbers p f q ∷ []) (corners p w h f g)
+-- document 01's corners with the Rust's numbers, each three floats
+abbrev pub listed : Machine → RadonDetectorParams → ℕ → ℕ → (ℕ → ℕ → Float) → (ℕ → ℕ → ℕ) → List (List Float)
+listed m p w h f g = each (λ q. numbers-by m p f q ∷ []) (corners p w h f g)
 
 -- a view within the limits
 pub record Viewed (v : RadonResponseView) : Type 0 where
@@ -159,8 +178,7 @@ at-least n k = go (leb k n) refl
 abbrev decided : Bool → Bool → Bool → Bool → List (List Float) → List Float → List (List Float)
 decided a b c d sink n = cond a sink (cond b sink (cond c sink (cond d sink (sink ++ (n ∷ [])))))
 
-module _ (m : Machine) (sound : Sound m) (v : RadonResponseView) (p : RadonDetectorParams) (o : Viewed v) (ray : p .«ray_radius» ≤ 7) (l : ListPasses p)
-    (logs : p .«peak_fit» ≡ Gaussian → (x y : ℕ) → x < v .w → y < v .h → Logs m (value (v .«data») (v .w) x y)) where
+module _ (m : Machine) (sound : Sound m) (v : RadonResponseView) (p : RadonDetectorParams) (o : Viewed v) (ray : p .«ray_radius» ≤ 7) (l : ListPasses p) where
   abbrev w : ℕ
   w = v .w
 
@@ -199,33 +217,18 @@ module _ (m : Machine) (sound : Sound m) (v : RadonResponseView) (p : RadonDetec
   reads x y a b = inside vs (y * w + x) _ nan (omega (arith, o .long, pixel-in a b))
 
   -- one candidate
-  turn : (ps : List Place) (x y : ℕ) {sink : List (List Float)} (a b c d : Bool) (n : List Float) → test (place x y) ≡ (a && (b && (c && d))) → numbers p f (place x y) ≡ n
-      → sink ≡ each (λ q. numbers p f q ∷ []) (keep test ps)
-      → cond (not a) sink (cond (not b) sink (cond (not c) sink (cond (not d) sink (sink ++ (n ∷ []))))) ≡ each (λ q. numbers p f q ∷ []) (keep test (ps ++ (place x y ∷ [])))
-  turn ps x y true true true true n e k s = rw (keep-yes test ps (place x y) e, each-more, s, k)
-  turn ps x y true true true false n e k s = rw (keep-no test ps (place x y) e) s
-  turn ps x y true true false d n e k s = rw (keep-no test ps (place x y) e) s
-  turn ps x y true false c d n e k s = rw (keep-no test ps (place x y) e) s
-  turn ps x y false b c d n e k s = rw (keep-no test ps (place x y) e) s
+  turn : (ps : List Place) (x y : ℕ) {sink : List (List Float)} (a b c d : Bool) → test (place x y) ≡ (a && (b && (c && d)))
+      → sink ≡ each (λ q. numbers-by m p f q ∷ []) (keep test ps)
+      → decided (not a) (not b) (not c) (not d) sink (numbers-by m p f (place x y)) ≡ each (λ q. numbers-by m p f q ∷ []) (keep test (ps ++ (place x y ∷ [])))
+  turn ps x y true true true true e s = rw (keep-yes test ps (place x y) e, each-more, s)
+  turn ps x y true true true false e s = rw (keep-no test ps (place x y) e) s
+  turn ps x y true true false d e s = rw (keep-no test ps (place x y) e) s
+  turn ps x y true false c d e s = rw (keep-no test ps (place x y) e) s
+  turn ps x y false b c d e s = rw (keep-no test ps (place x y) e) s
 
-  empty : candidates w h B ≡ [] → [] ≡ listed p w h f g
+  empty : candidates w h B ≡ [] → [] ≡ listed m p w h f g
   unfolding corners
   empty e = rw (e, keep-none, each-none)
-
-  -- the three numbers
-  numbers-as-rust : (x y : ℕ) → 1 ≤ x → x + 1 < w → 1 ≤ y → y + 1 < h → numbers p f (place x y)
-      ≡ ((as-f32 x ⊕ fit-peak-frac m (f (x - 1) y) (f x y) (f (x + 1) y) (p .«peak_fit»)) ⊗ (lit-1 ⊘ as-f32 up))
-      ∷ ((as-f32 y ⊕ fit-peak-frac m (f x (y - 1)) (f x y) (f x (y + 1)) (p .«peak_fit»)) ⊗ (lit-1 ⊘ as-f32 up)) ∷ f x y ∷ []
-  unfolding numbers inputAt toInput
-  numbers-as-rust x y a b c d =
-      let here = value-held x y (omega arith) (omega arith) in
-      rw (
-        scale-as-rust (p .«image_upsample»),
-        fit-as-rust m (f (x - 1) y) (f x y) (f (x + 1) y) (value-held (x - 1) y (omega arith) (omega arith)) here (value-held (x + 1) y (omega arith) (omega arith)) (p .«peak_fit»)
-            (λ e. (logs e (x - 1) y (omega arith) (omega arith), logs e x y (omega arith) (omega arith), logs e (x + 1) y (omega arith) (omega arith))),
-        fit-as-rust m (f x (y - 1)) (f x y) (f x (y + 1)) (value-held x (y - 1) (omega arith) (omega arith)) here (value-held x (y + 1) (omega arith) (omega arith)) (p .«peak_fit»)
-            (λ e. (logs e x (y - 1) (omega arith) (omega arith), logs e x y (omega arith) (omega arith), logs e x (y + 1) (omega arith) (omega arith))),
-      )
 
   abbrev above : ℕ → ℕ → Bool
   above x y = lt (t ⊗ peak w h f) (f x y)
@@ -239,10 +242,10 @@ module _ (m : Machine) (sound : Sound m) (v : RadonResponseView) (p : RadonDetec
 
   -- 89-116
   pixel-as-rust : Good (peak w h f) → (ps : List Place) (x y : ℕ) (sink : List (List Float)) → B ≤ x → x + B < w → B ≤ y → y + B < h
-      → sink ≡ each (λ q. numbers p f q ∷ []) (keep test ps)
+      → sink ≡ each (λ q. numbers-by m p f q ∷ []) (keep test ps)
       → process-pixel m v p (new m (rayOf (p .«ray_radius»))) (relative-floor m t (peak w h f)) (pos nms) (lit-1 ⊘ as-f32 up) y x sink
-      ≡ each (λ q. numbers p f q ∷ []) (keep test (ps ++ (place x y ∷ [])))
-  unfolding process-pixel
+      ≡ each (λ q. numbers-by m p f q ∷ []) (keep test (ps ++ (place x y ∷ [])))
+  unfolding process-pixel numbers-by
   pixel-as-rust best ps x y sink a b c d s =
       let clear : Clear w h nms x y = record {
         left = omega arith;
@@ -276,14 +279,11 @@ module _ (m : Machine) (sound : Sound m) (v : RadonResponseView) (p : RadonDetec
         reads x (y - 1) (omega arith) (omega arith),
         reads x (y + 1) (omega arith) (omega arith),
       )
-      ((λ i. decided (floored i) (not (largest i)) (counted i) (not (saddled i)) sink
-      (((as-f32 x ⊕ fit-peak-frac m (f (x - 1) y) (f x y) (f (x + 1) y) (p .«peak_fit»)) ⊗ (lit-1 ⊘ as-f32 up))
-      ∷ ((as-f32 y ⊕ fit-peak-frac m (f x (y - 1)) (f x y) (f x (y + 1)) (p .«peak_fit»)) ⊗ (lit-1 ⊘ as-f32 up)) ∷ f x y ∷ []))
-      ∙ turn ps x y (above x y) (not (beaten f nms (place x y))) (enough x y) (isKept (bySaddle (isSaddle p g (place x y)))) _ (kept x y)
-      (numbers-as-rust x y (omega arith) (omega arith) (omega arith) (omega arith)) s)
+      ((λ i. decided (floored i) (not (largest i)) (counted i) (not (saddled i)) sink (numbers-by m p f (place x y)))
+      ∙ turn ps x y (above x y) (not (beaten f nms (place x y))) (enough x y) (isKept (bySaddle (isSaddle p g (place x y)))) (kept x y) s)
 
   -- 42-145
-  pub detect-as-rust : detect-peaks-from-radon m v p ≡ listed p (v .w) (v .h) (value (v .«data») (v .w)) (pixel (v .image) (v .w))
+  pub detect-as-rust : detect-peaks-from-radon m v p ≡ listed m p (v .w) (v .h) (value (v .«data») (v .w)) (pixel (v .image) (v .w))
   unfolding detect-peaks-from-radon corners
   detect-as-rust = go (eqb w 0 || eqb h 0) (leb w (2 * B) || leb h (2 * B)) refl refl
     where
@@ -305,7 +305,7 @@ module _ (m : Machine) (sound : Sound m) (v : RadonResponseView) (p : RadonDetec
       some : (eqb w 0 || eqb h 0) ≡ false → 0 < w * h
       some e = mul-pos (above-0 w (or-false (eqb w 0) (eqb h 0) e .0)) (above-0 h (or-false (eqb w 0) (eqb h 0) e .1))
 
-      go : (a b : Bool) → (eqb w 0 || eqb h 0) ≡ a → (leb w (2 * B) || leb h (2 * B)) ≡ b → detect-peaks-from-radon m v p ≡ listed p w h f g
+      go : (a b : Bool) → (eqb w 0 || eqb h 0) ≡ a → (leb w (2 * B) || leb h (2 * B)) ≡ b → detect-peaks-from-radon m v p ≡ listed m p w h f g
       go true b e q = rw e (elim (or-true (eqb w 0) (eqb h 0) e) [
         | inl z ↦ empty (narrow w h B (omega (arith, eqb-true w 0 z)))
         | inr z ↦ empty (low w h B (omega (arith, eqb-true h 0 z)))
@@ -334,7 +334,7 @@ module _ (m : Machine) (sound : Sound m) (v : RadonResponseView) (p : RadonDetec
             less-is m h B (omega arith),
             less-is m w B (omega arith),
           )
-          (rect-loop (λ ps sink. sink ≡ each (λ q. numbers p f q ∷ []) (keep test ps)) B (w - B) B (h - B)
+          (rect-loop (λ ps sink. sink ≡ each (λ q. numbers-by m p f q ∷ []) (keep test ps)) B (w - B) B (h - B)
           (λ y x sink. process-pixel m v p (new m (rayOf (p .«ray_radius»))) (relative-floor m t (peak w h f)) (pos nms) (lit-1 ⊘ as-f32 up) y x sink)
           [] (omega arith) (omega arith) (rw (keep-none, each-none))
           (λ x y sink a b c d s. pixel-as-rust best (before B (w - B) B x y) x y sink a (omega arith) c (omega arith) s))

@@ -3,8 +3,7 @@
 use mathlib.Core.Path.{_≡_, refl, sym, ap, _∙_}
 use mathlib.Core.Bool.{Bool, true, false, cond}
 use Prim.Native.Nat.{ℕ, _+_, _-_, _*_, _/_, _^_, _≤_, _<_, min}
-use native.Mathlib.Nat.{add-mul, sub-add-cancel, mul-assoc, mul-comm, mul-right-comm, zero-mul, mul-pos, mul-le-mul-right, le-of-mul-le-mul-right,
-  eq-of-mul-eq-mul-right, lt-of-lt-of-le, div-eq-of-lt}
+use native.Mathlib.Nat.{add-mul, sub-add-cancel, mul-assoc, mul-comm, mul-right-comm, zero-mul, mul-pos, mul-le-mul-right, le-of-mul-le-mul-right, eq-of-mul-eq-mul-right, lt-of-lt-of-le, div-eq-of-lt}
 use native.Mathlib.Omega.{arith}
 use borrow.Author.Tests.{ltb-true, ltb-false, le-ltb}
 use lib.Dec.{ltb, lit<, lit≤}

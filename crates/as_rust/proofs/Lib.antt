@@ -11,6 +11,7 @@ pub mod Map
 pub mod Neighbors
 pub mod Root
 pub mod Saddle
+pub mod Indices
 pub mod Values
 pub mod Detect
 pub mod Crown

@@ -25,8 +25,7 @@ use Rattle.response.specs.BlurLaws.{rowMean-ext, blurAt-ext}
 use Rattle.response.specs.Runs.{Runs, side-most}
 use Rattle.response.specs.Map.{Buffers, rawAt, mapAt, mappedBy, mapped, sideOf}
 use Rattle.as_rust.specs.Machine.{Machine, usize, copy-from-slice, resize}
-use Rattle.as_rust.specs.Response.{RadonBuffers, Cumsums, image-upsample-clamped, ensure-capacity, upsample-bilinear-2x, sat-row, sat-col,
-  sat-diag-pos, sat-diag-neg, compute-response, radon-response-u8}
+use Rattle.as_rust.specs.Response.{RadonBuffers, Cumsums, image-upsample-clamped, ensure-capacity, upsample-bilinear-2x, sat-row, sat-col, sat-diag-pos, sat-diag-neg, compute-response, radon-response-u8}
 use Rattle.as_rust.specs.Primitives.{box-blur-inplace}
 use Rattle.as_rust.specs.Runs.{Bytes, SameMap}
 use Rattle.as_rust.proofs.Machine.{usize-is, copy-is, resize-long}

@@ -129,34 +129,40 @@ module _ (x : Float) (X : Pattern x) where
 
   -- sums of two f32s in units, and x
   module _ (y r : Float) (Y : Pattern y) (Z : Pattern r) where
-    sums : sum-top y r * 2 ^ 149 ≡ (val (Y .bits) + val (Z .bits)) * sum-bottom y r
-    sums = sum-units (2 ^ 149) (top y) (bottom y) (top r) (bottom r) (val (Y .bits)) (val (Z .bits)) unit-pos (Y .under) (Z .under) (Y .worth-is) (Z .worth-is)
+    abbrev both : ℕ
+    both = val (Y .bits) + val (Z .bits)
 
-    over-is : (val (Y .bits) + val (Z .bits)) * (val (Y .bits) + val (Z .bits)) < fourfold (X .bits)
+    under-both : 0 < sum-bottom y r
+    under-both = mul-pos (Y .under) (Z .under)
+
+    sums : sum-top y r * 2 ^ 149 ≡ both * sum-bottom y r
+    sums = sum-units (2 ^ 149) (top y) (bottom y) (top r) (bottom r) _ _ unit-pos (Y .under) (Z .under) (Y .worth-is) (Z .worth-is)
+
+    over-is : both * both < fourfold (X .bits)
         → sum-top y r * sum-top y r * bottom x < 4 * top x * (sum-bottom y r * sum-bottom y r)
     unfolding fourfold
-    over-is = over-units (2 ^ 149) (sum-top y r) (sum-bottom y r) (val (Y .bits) + val (Z .bits)) (top x) (bottom x) (val (X .bits)) unit-pos (X .under) (mul-pos (Y .under) (Z .under)) sums (X .worth-is)
+    over-is = over-units (2 ^ 149) (sum-top y r) (sum-bottom y r) both (top x) (bottom x) (val (X .bits)) unit-pos (X .under) under-both sums (X .worth-is)
 
     is-over : sum-top y r * sum-top y r * bottom x < 4 * top x * (sum-bottom y r * sum-bottom y r)
-        → (val (Y .bits) + val (Z .bits)) * (val (Y .bits) + val (Z .bits)) < fourfold (X .bits)
+        → both * both < fourfold (X .bits)
     unfolding fourfold
-    is-over = units-over (2 ^ 149) (sum-top y r) (sum-bottom y r) (val (Y .bits) + val (Z .bits)) (top x) (bottom x) (val (X .bits)) unit-pos (X .under) (mul-pos (Y .under) (Z .under)) sums (X .worth-is)
+    is-over = units-over (2 ^ 149) (sum-top y r) (sum-bottom y r) both (top x) (bottom x) (val (X .bits)) unit-pos (X .under) under-both sums (X .worth-is)
 
-    under-is : fourfold (X .bits) < (val (Y .bits) + val (Z .bits)) * (val (Y .bits) + val (Z .bits))
+    under-is : fourfold (X .bits) < both * both
         → 4 * top x * (sum-bottom y r * sum-bottom y r) < sum-top y r * sum-top y r * bottom x
     unfolding fourfold
-    under-is = under-units (2 ^ 149) (sum-top y r) (sum-bottom y r) (val (Y .bits) + val (Z .bits)) (top x) (bottom x) (val (X .bits)) unit-pos (X .under) (mul-pos (Y .under) (Z .under)) sums (X .worth-is)
+    under-is = under-units (2 ^ 149) (sum-top y r) (sum-bottom y r) both (top x) (bottom x) (val (X .bits)) unit-pos (X .under) under-both sums (X .worth-is)
 
     is-under : 4 * top x * (sum-bottom y r * sum-bottom y r) < sum-top y r * sum-top y r * bottom x
-        → fourfold (X .bits) < (val (Y .bits) + val (Z .bits)) * (val (Y .bits) + val (Z .bits))
+        → fourfold (X .bits) < both * both
     unfolding fourfold
-    is-under = units-under (2 ^ 149) (sum-top y r) (sum-bottom y r) (val (Y .bits) + val (Z .bits)) (top x) (bottom x) (val (X .bits)) unit-pos (X .under) (mul-pos (Y .under) (Z .under)) sums (X .worth-is)
+    is-under = units-under (2 ^ 149) (sum-top y r) (sum-bottom y r) both (top x) (bottom x) (val (X .bits)) unit-pos (X .under) under-both sums (X .worth-is)
 
     order : val (Y .bits) < val (Z .bits) → top y * bottom r < top r * bottom y
-    order = less-units (2 ^ 149) (top y) (bottom y) (top r) (bottom r) (val (Y .bits)) (val (Z .bits)) unit-pos (Y .under) (Z .under) (Y .worth-is) (Z .worth-is)
+    order = less-units (2 ^ 149) (top y) (bottom y) (top r) (bottom r) _ _ unit-pos (Y .under) (Z .under) (Y .worth-is) (Z .worth-is)
 
     order-back : top y * bottom r < top r * bottom y → val (Y .bits) < val (Z .bits)
-    order-back = units-less (2 ^ 149) (top y) (bottom y) (top r) (bottom r) (val (Y .bits)) (val (Z .bits)) unit-pos (Y .under) (Z .under) (Y .worth-is) (Z .worth-is)
+    order-back = units-less (2 ^ 149) (top y) (bottom y) (top r) (bottom r) _ _ unit-pos (Y .under) (Z .under) (Y .worth-is) (Z .worth-is)
 
   swapped : (a b : ℕ) → (a + b) * (a + b) ≡ (b + a) * (b + a)
   swapped a b = ap (λ (s : ℕ). s * s) (omega arith)

@@ -9,14 +9,11 @@ use Rattle.grid.specs.Rect.{range, from}
 use Rattle.scalar.specs.Root.{rootBits}
 use Rattle.params.specs.declared.RadonDetectorParams.{RadonDetectorParams}
 use Rattle.params.specs.declared.PeakFitMode.the-variants.{Parabolic}
-use Rattle.as_rust.specs.Machine.{floor, rounded, clamp, max-f32, abs, i64, i32, usize, u32, less, put, copy-from-slice, resize, times,
-  for-signed, chunks}
+use Rattle.as_rust.specs.Machine.{floor, rounded, clamp, max-f32, abs, i64, i32, usize, u32, less, put, copy-from-slice, resize, times, for-signed, chunks}
 use Rattle.as_rust.specs.Primitives.{peak-frac, fit-peak-frac, horiz-px, horiz-kernel, vert-kernel, box-blur-inplace}
-use Rattle.as_rust.specs.Response.{s-h, s-v, s-d1, s-d2, new, ensure-capacity, out-px, row-kernel, upsample-bilinear-2x, sat-row, sat-col,
-  sat-diag-pos, sat-diag-neg, radon-response-at, compute-response-row, compute-response, radon-response-u8}
+use Rattle.as_rust.specs.Response.{s-h, s-v, s-d1, s-d2, new, ensure-capacity, out-px, row-kernel, upsample-bilinear-2x, sat-row, sat-col, sat-diag-pos, sat-diag-neg, radon-response-at, compute-response-row, compute-response, radon-response-u8}
 use Rattle.as_rust.specs.Neighbors.{is-local-max, count-positive-neighbors}
-use Rattle.as_rust.specs.Detect.{relative-floor, offsets, new as new-saddle, accepts, process-pixel, greatest, border-of,
-  detect-peaks-from-radon}
+use Rattle.as_rust.specs.Detect.{relative-floor, offsets, new as new-saddle, accepts, process-pixel, greatest, border-of, detect-peaks-from-radon}
 use Rattle.as_rust.specs.Runs.{found-by}
 use Rattle.as_rust.proofs.Crown.{ours}
 
@@ -50,7 +47,11 @@ document-settings = record {
 
 pub document-run : ran document-frame 7 7 document-settings
     ≡ corner 0x4040_0000 0x4040_0000 0x481c_4000 ∷ []
-unfolding ours times for-signed chunks put copy-from-slice resize floor rounded clamp max-f32 abs i64 i32 usize u32 less peak-frac fit-peak-frac horiz-px horiz-kernel vert-kernel box-blur-inplace ensure-capacity out-px row-kernel upsample-bilinear-2x sat-row sat-col sat-diag-pos sat-diag-neg s-h s-v s-d1 s-d2 radon-response-at compute-response-row compute-response radon-response-u8 is-local-max count-positive-neighbors relative-floor offsets new-saddle accepts process-pixel greatest border-of detect-peaks-from-radon each keep range from rootBits ofBits toBits ofInt toSigned toUnsigned isNan add sub mul div lt le eq
+unfolding ours times for-signed chunks put copy-from-slice resize floor rounded clamp max-f32 abs i64 i32 usize u32 less peak-frac
+    fit-peak-frac horiz-px horiz-kernel vert-kernel box-blur-inplace ensure-capacity out-px row-kernel upsample-bilinear-2x sat-row
+    sat-col sat-diag-pos sat-diag-neg s-h s-v s-d1 s-d2 radon-response-at compute-response-row compute-response radon-response-u8
+    is-local-max count-positive-neighbors relative-floor offsets new-saddle accepts process-pixel greatest border-of
+    detect-peaks-from-radon each keep range from rootBits ofBits toBits ofInt toSigned toUnsigned isNan add sub mul div lt le eq
 document-run = refl
 
 -- 5 by 3 at factor 2, blur radius 2, no suppression: six corners
@@ -77,7 +78,11 @@ pub small-run : ran small-frame 5 3 small-settings
     corner 0x3fe0_0000 0x3fa0_0000 0x429c_3d71 ∷
     corner 0x4027_6093 0x3fc0_0000 0x42b7_1eb8 ∷
     corner 0x4060_0000 0x3fc0_0000 0x4293_3333 ∷ []
-unfolding ours times for-signed chunks put copy-from-slice resize floor rounded clamp max-f32 abs i64 i32 usize u32 less peak-frac fit-peak-frac horiz-px horiz-kernel vert-kernel box-blur-inplace ensure-capacity out-px row-kernel upsample-bilinear-2x sat-row sat-col sat-diag-pos sat-diag-neg s-h s-v s-d1 s-d2 radon-response-at compute-response-row compute-response radon-response-u8 is-local-max count-positive-neighbors relative-floor offsets new-saddle accepts process-pixel greatest border-of detect-peaks-from-radon each keep range from rootBits ofBits toBits ofInt toSigned toUnsigned isNan add sub mul div lt le eq
+unfolding ours times for-signed chunks put copy-from-slice resize floor rounded clamp max-f32 abs i64 i32 usize u32 less peak-frac
+    fit-peak-frac horiz-px horiz-kernel vert-kernel box-blur-inplace ensure-capacity out-px row-kernel upsample-bilinear-2x sat-row
+    sat-col sat-diag-pos sat-diag-neg s-h s-v s-d1 s-d2 radon-response-at compute-response-row compute-response radon-response-u8
+    is-local-max count-positive-neighbors relative-floor offsets new-saddle accepts process-pixel greatest border-of
+    detect-peaks-from-radon each keep range from rootBits ofBits toBits ofInt toSigned toUnsigned isNan add sub mul div lt le eq
 small-run = refl
 
 -- 14 by 11, ray radius 2: four corners with offsets
@@ -110,5 +115,9 @@ pub plain-run : ran plain-frame 14 11 plain-settings
     corner 0x40c0_0000 0x40a3_b13b 0x47d8_9480 ∷
     corner 0x40e0_0000 0x40a0_0000 0x47d8_9480 ∷
     corner 0x4100_0000 0x4090_0000 0x47d8_9480 ∷ []
-unfolding ours times for-signed chunks put copy-from-slice resize floor rounded clamp max-f32 abs i64 i32 usize u32 less peak-frac fit-peak-frac horiz-px horiz-kernel vert-kernel box-blur-inplace ensure-capacity out-px row-kernel upsample-bilinear-2x sat-row sat-col sat-diag-pos sat-diag-neg s-h s-v s-d1 s-d2 radon-response-at compute-response-row compute-response radon-response-u8 is-local-max count-positive-neighbors relative-floor offsets new-saddle accepts process-pixel greatest border-of detect-peaks-from-radon each keep range from rootBits ofBits toBits ofInt toSigned toUnsigned isNan add sub mul div lt le eq
+unfolding ours times for-signed chunks put copy-from-slice resize floor rounded clamp max-f32 abs i64 i32 usize u32 less peak-frac
+    fit-peak-frac horiz-px horiz-kernel vert-kernel box-blur-inplace ensure-capacity out-px row-kernel upsample-bilinear-2x sat-row
+    sat-col sat-diag-pos sat-diag-neg s-h s-v s-d1 s-d2 radon-response-at compute-response-row compute-response radon-response-u8
+    is-local-max count-positive-neighbors relative-floor offsets new-saddle accepts process-pixel greatest border-of
+    detect-peaks-from-radon each keep range from rootBits ofBits toBits ofInt toSigned toUnsigned isNan add sub mul div lt le eq
 plain-run = refl

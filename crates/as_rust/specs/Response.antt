@@ -8,8 +8,7 @@ use lib.IntN.{ℤ, pos, _+ℤ_, _-ℤ_}
 use lib.Ieee.{Float}
 use Rattle.params.specs.declared.RadonDetectorParams.{RadonDetectorParams}
 use Rattle.params.specs.declared.PeakFitMode.the-variants.{Gaussian}
-use Rattle.as_rust.specs.Machine.{Machine, _⊕_, _⊖_, _⊗_, lit-0, lit-1, lit-half, lit-255, lit-0·28, floor, rounded, clamp, ltℤ, maxℤ, i64,
-  usize, less, as-usize, as-f32, as-f32-signed, to-isize, to-u8, byte-at, entry-at, float-at, put, copy-from-slice, resize, for, chunks}
+use Rattle.as_rust.specs.Machine.{Machine, _⊕_, _⊖_, _⊗_, lit-0, lit-1, lit-half, lit-255, lit-0·28, floor, rounded, clamp, ltℤ, maxℤ, i64, usize, less, as-usize, as-f32, as-f32-signed, to-isize, to-u8, byte-at, entry-at, put, copy-from-slice, resize, for, chunks}
 use Rattle.as_rust.specs.Primitives.{box-blur-inplace}
 
 -- 38-41: `SatElem` is i64, `SatElem::default()` is 0 and `SatElem::from(b)` the byte b
@@ -273,6 +272,4 @@ pub record RadonResponseView : Type 0 where
 abbrev pub view : RadonBuffers → RadonResponseView
 view b = record { «data» = b .response; image = b .working; w = b .working-w; h = b .working-h }
 
--- 604-627: `width()`, `height()` and `data()` are the fields w, h and data
-abbrev pub view-at : Machine → RadonResponseView → ℕ → ℕ → Float
-view-at m self x y = float-at m (self .«data») (y * self .w + x)
+-- 604-627: `width()`, `height()` and `data()` are these fields; `at` is not used by the functions here

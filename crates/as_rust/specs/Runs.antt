@@ -1,21 +1,25 @@
 -- What is claimed: a call of ours and a run of the Rust's two functions, over any buffers of the Rust's, leave the same. Ours is what the contracts say (crates/radon/specs/Finder,
 -- crates/response/specs/Map); the Rust's is the text of this folder.
 use mathlib.Core.Path.{_≡_}
-use mathlib.Core.List.{List, map}
-use Prim.Native.Nat.{ℕ, _*_, _<_}
+use mathlib.Core.List.{List, [], _∷_, map}
+use Prim.Native.Nat.{ℕ, _+_, _-_, _*_, _<_}
 use lib.Dec.{T}
 use lib.ListN.{length, getD, take}
 use lib.IntN.{pos}
 use lib.Ieee.{Float, lt}
 use Rattle.grid.specs.Ways.{pixel}
+use Rattle.grid.specs.Each.{each}
+use Rattle.grid.specs.Rect.{Place}
 use Rattle.grid.specs.Over.{written}
 use Rattle.params.specs.declared.RadonDetectorParams.{RadonDetectorParams}
 use Rattle.params.specs.declared.Outcome.{Outcome}
+use Rattle.params.specs.Settings.{factorOf}
 use Rattle.scalar.specs.Log.{logOf, terms, high}
 use Rattle.scalar.specs.declared.Log.the-variants.{Value}
 use Rattle.response.specs.Map.{Buffers, sideOf, mapOf}
 use Rattle.detect.specs.Corners.{stride}
-use Rattle.as_rust.specs.Machine.{Machine, lit-0}
+use Rattle.as_rust.specs.Machine.{Machine, _⊕_, _⊗_, _⊘_, lit-0, lit-1, as-f32}
+use Rattle.as_rust.specs.Primitives.{fit-peak-frac}
 use Rattle.as_rust.specs.Response.{RadonBuffers, view}
 use Rattle.as_rust.specs.Detect.{detect-peaks-from-radon}
 
@@ -35,12 +39,27 @@ pub record SameMap (w h blur : ℕ) (ours : Buffers) (rust : RadonBuffers) : Typ
   pub response : take (w * h) (ours .response) ≡ rust .response
   pub scratch : 0 < blur → take (w * h) (ours .scratch) ≡ rust .blur-scratch
 
--- Our count, W and H are the Rust's; and our list is the old one with the Rust's corners written over its beginning, three numbers each, as many as fit whole.
-pub record SameList (o : Outcome) (old list : List Float) (rust : RadonBuffers) (found : List (List Float)) : Type 0 where
+-- A corner's numbers as the Rust's text has them, at a place of a map f: 103-116 of detect.rs, with the machine's logarithm.
+unfoldable pub numbers-by : Machine → RadonDetectorParams → (ℕ → ℕ → Float) → Place → List Float
+numbers-by m p f q =
+    let x = q .x in
+    let y = q .y in
+    let inv-up = lit-1 ⊘ as-f32 (factorOf (p .«image_upsample»)) in
+    ((as-f32 x ⊕ fit-peak-frac m (f (x - 1) y) (f x y) (f (x + 1) y) (p .«peak_fit»)) ⊗ inv-up)
+    ∷ ((as-f32 y ⊕ fit-peak-frac m (f x (y - 1)) (f x y) (f x (y + 1)) (p .«peak_fit»)) ⊗ inv-up)
+    ∷ f x y ∷ []
+
+-- Whatever the machine's logarithm: our count, W and H are the Rust's, and its corners stand at our places with our strengths, in our order.
+-- Only the two coordinates, and in Gaussian mode alone, turn on the logarithm.
+pub record SameFound (o : Outcome) (places : List Place) (numbers : Place → List Float) (rust : RadonBuffers) (found : List (List Float)) : Type 0 where
   pub count : o .count ≡ length found
   pub width : o .w ≡ rust .working-w
   pub height : o .h ≡ rust .working-h
-  pub corners : list ≡ written stride (λ corner. corner) found old
+  pub corners : found ≡ each (λ q. numbers q ∷ []) places
+
+-- Our list is the old one with the Rust's corners written over its beginning, three numbers each, as many as fit whole.
+abbrev pub SameList : List Float → List Float → List (List Float) → Type 0
+SameList old list found = list ≡ written stride (λ corner. corner) found old
 
 -- the machine's logarithm is ours wherever it is asked: on the map's values above 0
 abbrev pub LogIsOurs : Machine → List ℕ → ℕ → ℕ → RadonDetectorParams → Type 0
