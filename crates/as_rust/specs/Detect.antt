@@ -87,7 +87,8 @@ at m resp w x y = float-at m resp (y * w + x)
 
 -- 89-116, the body of the loop in the closure `process_row`; what it takes from outside is its parameters. `continue` is to leave `sink` as it is.
 -- 113-116: a corner is its x, y and strength; `at_peak_fit` is always true and `model` none.
-unfoldable pub process-pixel : Machine → RadonResponseView → RadonDetectorParams → SaddleTest → Float → ℤ → Float → ℕ → ℕ → List (List Float) → List (List Float)
+unfoldable pub process-pixel : Machine → RadonResponseView → RadonDetectorParams → SaddleTest → Float → ℤ → Float → ℕ → ℕ → List (List Float)
+    → List (List Float)
 process-pixel m resp params saddle thr nms-r inv-up y x sink =
     let w = resp .w in
     let h = resp .h in

@@ -1,5 +1,5 @@
--- What Rust's integers, floats, slices and loops mean. What the Rust's text leaves open, and what a panic or a wrap would give, is one parameter, `Machine`,
--- and the theorems hold for every such machine that is `Sound`. Definitions only.
+-- What Rust's integers, floats, slices and loops mean. What the Rust's text leaves open, and what a panic or a wrap would give, is one
+-- parameter, `Machine`, and the theorems hold for every machine that is `Sound`. Definitions only.
 use mathlib.Core.Path.{_≡_}
 use mathlib.Core.Logic.{_⊎_}
 use mathlib.Core.Bool.{Bool, true, false, cond}
@@ -24,8 +24,9 @@ pub record Machine : Type 0 where
   pub start : Float
   -- whether `x.max(y)` is x where neither is greater: of 0.0 and -0.0 it may be either
   pub first : Float → Float → Bool
-  -- In place of a panic or a wrap: what a read at an index outside a slice gives, by the index, of bytes, of table entries and of floats;
-  -- and what a signed and an unsigned operation gives whose result its type has not, by that result.
+  -- In place of a panic or a wrap: what a read at an index outside a slice gives, by the index, of bytes, of table entries and of floats; and what
+  -- a signed and an unsigned operation gives whose result its type has not, by that result. Since these may be anything, a byte beyond all f32s
+  -- and a NaN too, one that reached a result would show. A read whose value is thrown away would not: proofs/Indices has a bound for each.
   pub byte : ℕ → ℕ
   pub entry : ℕ → ℤ
   pub float : ℕ → Float
@@ -135,7 +136,8 @@ is-finite nan = false
 is-finite (inf s) = false
 is-finite (fin s k e) = true
 
--- ---- integers: i64, i32 and isize are ℤ, usize and u32 are ℕ, and isize and usize have 64 bits
+-- ---- integers: i64, i32 and isize are ℤ, usize, u32 and u8 are ℕ, and isize and usize have 64 bits. The settings' u32s are any ℕ; an image's bytes
+-- are below 256 by `Bytes` of Runs, and what is stored as a byte comes from `to-u8`.
 
 -- `a < b` on i64, i32 or isize
 abbrev pub ltℤ : ℤ → ℤ → Bool
@@ -215,7 +217,8 @@ wrapping-add-signed x o = (x + as-usize o) % 2 ^ 64
 
 -- ---- slices, which are lists
 
--- `s[i]` of bytes, of table entries, of floats. An index is a sum of products, without `usize` about it: one that usize has not is outside every slice.
+-- `s[i]` of bytes, of table entries, of floats. An index is a sum of products, without `usize` about it: one that usize has not is outside
+-- every slice.
 abbrev pub byte-at : Machine → List ℕ → ℕ → ℕ
 byte-at m s i = getD s i (m .byte i)
 
@@ -262,8 +265,8 @@ unfoldable pub for-signed : {S : Type 0} → ℤ → ℤ → (ℤ → S → S) �
 unfolding times
 for-signed a e step s = times (how-many a e) (λ i. step (a +ℤ pos i)) s
 
--- `for (i, row) in s.chunks_mut(w).enumerate() { step(i, row); }`: a row is told by where it begins in s and how many entries it has, w or what is left.
--- (w = 0 panics; each of the three calls comes after a test that w is not 0.)
+-- `for (i, row) in s.chunks_mut(w).enumerate() { step(i, row); }`: a row is told by where it begins in s and how many entries it has, w or what
+-- is left. (w = 0 panics; each of the three calls comes after a test that w is not 0.)
 unfoldable pub chunks : {A : Type 0} → ℕ → (ℕ → ℕ → ℕ → List A → List A) → List A → List A
 unfolding times
 chunks w step s =

@@ -1,4 +1,5 @@
--- radon/primitives.rs: `fit_peak_frac` and `box_blur_inplace`. Left out: `fit_peak_frac_grad` and `fit_peak_curvature_grad`, which only the covariance uses, and rayon.
+-- radon/primitives.rs: `fit_peak_frac` and `box_blur_inplace`. Left out: `fit_peak_frac_grad` and `fit_peak_curvature_grad`, which only the
+-- covariance uses, and rayon.
 use mathlib.Core.Bool.{Bool, true, false, cond, _&&_, _||_}
 use mathlib.Core.List.{List}
 use Prim.Native.Nat.{ℕ, _+_, _-_, _*_, min}

@@ -1,4 +1,5 @@
--- radon/response.rs, but for what runs only with the features rayon, simd or radon-sat-u32, serde and `to_response_map`. `debug_assert_eq!` is no part of a release build.
+-- radon/response.rs, but for what runs only with the features rayon, simd or radon-sat-u32, serde and `to_response_map`. `debug_assert_eq!` is no
+-- part of a release build; what it asks of lengths holds (`Sized` of proofs/Map).
 use mathlib.Core.Bool.{cond, _&&_, _||_}
 use mathlib.Core.List.{List, [], _∷_, foldl}
 use Prim.Native.Nat.{ℕ, _+_, _*_, min, max}
@@ -210,8 +211,8 @@ radon-response-at m cs r x y =
     let d = sat-to-f32 (i64 m (s .0 -ℤ s .1)) in
     d ⊗ d
 
--- 372-400: the row is the part of out from `at` on, n floats. The early return is a branch. 382: `row[..r]`; 392: `take(w - r)` ends with the row; 397: `row[(w - r)..]`.
--- (The two parts panic where they do not lie in the row. They do: n is w, `chunks-are-rows` of proofs/Loops, and w is over 2 r.)
+-- 372-400: the row is the part of out from `at` on, n floats. The early return is a branch. 382: `row[..r]`; 392: `take(w - r)` ends with the row;
+-- 397: `row[(w - r)..]`. (The two parts panic where they do not lie in the row. They do: n is w, `chunks-are-rows` of proofs/Loops, and w is over 2 r.)
 unfoldable pub compute-response-row : Machine → Cumsums → ℕ → ℕ → ℕ → ℕ → List Float → List Float
 compute-response-row m cs ray-radius y at n row =
     let w = cs .w in

@@ -1,4 +1,4 @@
--- IEEE 754's square root of an f32, rounded to nearest: the f32 that no other is as near to the root as. Ties do not occur, so that none has to be broken.
+-- IEEE 754's square root of an f32, rounded to nearest: no other f32 is as near to the root. Ties do not occur, so that none has to be broken.
 use mathlib.Core.Path.{_≡_}
 use mathlib.Core.Bool.{Bool, true, false}
 use Prim.Native.Nat.{ℕ, _+_, _*_, _<_}
@@ -30,7 +30,7 @@ sum-top y r = top y * bottom r + top r * bottom y
 abbrev pub sum-bottom : Float → Float → ℕ
 sum-bottom y r = bottom y * bottom r
 
--- The root of x lies beyond the middle of r and each lesser f32, and short of the middle of r and each greater one: (y + r)² < 4 x and 4 x < (y + r)².
+-- The root of x lies beyond the middle of r and each lesser f32 y, (y + r)² < 4 x, and short of the middle of r and each greater one, 4 x < (y + r)².
 pub record Nearest (x r : Float) : Type 0 where
   pub holds : T (fits binary32 r)
   pub positive : plus r ≡ true

@@ -1,5 +1,5 @@
--- What is claimed: a call of ours and a run of the Rust's two functions, over any buffers of the Rust's, leave the same. Ours is what the contracts say (crates/radon/specs/Finder,
--- crates/response/specs/Map); the Rust's is the text of this folder.
+-- What is claimed: a call of ours and a run of the Rust's two functions, over any buffers of the Rust's, leave the same. Ours is what the contracts
+-- say (crates/radon/specs/Finder, crates/response/specs/Map); the Rust's is the text of this folder.
 use mathlib.Core.Path.{_≡_}
 use mathlib.Core.List.{List, [], _∷_, map}
 use Prim.Native.Nat.{ℕ, _+_, _-_, _*_, _<_}
