@@ -86,7 +86,8 @@ record Turn (a n : ℕ) (g new : ℕ → Float) (ys dst : List Float) (x : ℕ) 
   behind : (k : ℕ) → a + n ≤ k → getD dst k nan ≡ getD ys k nan
 
 module _ (m : Machine) (a n : ℕ) (ys : List Float) (room : a + n ≤ length ys) where
-  turn-more : {g new : ℕ → Float} {dst : List Float} {x : ℕ} {v : Float} → Turn a n g new ys dst x → x < n → v ≡ new x → Turn a n g new ys (put dst (a + x) v) (x + 1)
+  turn-more : {g new : ℕ → Float} {dst : List Float} {x : ℕ} {v : Float} → Turn a n g new ys dst x → x < n → v ≡ new x
+      → Turn a n g new ys (put dst (a + x) v) (x + 1)
   turn-more {dst = dst} {x = x} {v = v} t b e = rw (put-is dst (a + x) v (omega (arith, t .long))) (record {
     long = length-set dst (a + x) v ∙ t .long;
     is = λ i p q.
@@ -116,7 +117,8 @@ module _ (m : Machine) (a n : ℕ) (ys : List Float) (room : a + n ≤ length ys
 
 module _ (m : Machine) (g : ℕ → ℕ → Float) (w h r : ℕ) (small : r ≤ 3) (high : h ≤ 8192) (scratch : List Float)
     (holds : (x y : ℕ) (out : Float) → x < w → y < h → getD scratch (y * w + x) out ≡ g x y) where
-  kernel-as-rust : (y : ℕ) → y < h → (ys : List Float) → w * h ≤ length ys → RowIs (y * w) w (λ x. columnMean g h r x y) ys (vert-kernel m scratch w h r y (y * w) w ys)
+  kernel-as-rust : (y : ℕ) → y < h → (ys : List Float) → w * h ≤ length ys
+      → RowIs (y * w) w (λ x. columnMean g h r x y) ys (vert-kernel m scratch w h r y (y * w) w ys)
   unfolding vert-kernel columnMean windowSum
   kernel-as-rust y b ys room =
       rw (usize-is m (y + r + 1) (omega arith), less-is m (min (y + r + 1) h) (y - r) (omega arith), whole-row)
@@ -220,6 +222,7 @@ module _ (m : Machine) (resp scratch : List Float) (w h : ℕ) (wide : w ≤ 819
       go false e =
           let b : 0 < w = above-0 w (or-false (eqb w 0) (eqb h 0) e .0) in
           record {
-            response = unfold blurAt in (chunks-are-rows w h _ resp b long ∙ vert-as-rust m (rowMean g w (suc r)) w h (suc r) l high rows (at b) resp long);
+            response =
+                unfold blurAt in (chunks-are-rows w h _ resp b long ∙ vert-as-rust m (rowMean g w (suc r)) w h (suc r) l high rows (at b) resp long);
             scratched-is = unfold scratched in rows-are b;
           }

@@ -1,5 +1,6 @@
--- Demand 2 as a theorem: what a call of ours leaves is what the Rust's own text leaves. For every image, settings and buffers that the call accepts, over any buffers of the Rust's,
--- on every machine that is sound: no panic and no wrap changes it, nor which zero a sum starts at or `max` gives. Assumes nothing.
+-- Demand 2 as a theorem: what a call of ours leaves is what the Rust's own text leaves. For every image, settings and buffers that the call accepts,
+-- over any buffers of the Rust's, on every machine that is sound: nothing turns on what a panic or a wrap would give, on which zero a sum starts at
+-- or `max` gives, and the list's coordinates in Gaussian mode alone turn on the logarithm. Assumes nothing.
 use mathlib.Core.Path.{_≡_, refl, sym, ap, _∙_}
 use mathlib.Core.Logic.{inl, inr}
 use mathlib.Core.Bool.{true}
@@ -74,7 +75,8 @@ raw-fits f w h r x y = cond-fits binary32 (within w h r x y) (square (raySpread 
 
 map-fits : (factor ray blur : ℕ) (f : ℕ → ℕ → ℕ) (w h x y : ℕ) → T (fits binary32 (mapAt factor ray blur f w h x y))
 unfolding mapAt rawAt
-map-fits factor ray blur f w h x y = blur-fits (rawAt factor ray f w h) (factor * w) (factor * h) blur x y (raw-fits (workAt factor f w h) (factor * w) (factor * h) ray x y)
+map-fits factor ray blur f w h x y =
+    blur-fits (rawAt factor ray f w h) (factor * w) (factor * h) blur x y (raw-fits (workAt factor f w h) (factor * w) (factor * h) ray x y)
 
 -- ---- two maps and two images that agree inside have the same list
 
@@ -93,7 +95,8 @@ module _ (m : Machine) (p : RadonDetectorParams) (w h : ℕ) where
 
   listed-same : (f g : ℕ → ℕ → Float) (a b : ℕ → ℕ → ℕ) → ((x y : ℕ) → x < w → y < h → f x y ≡ g x y) → ((x y : ℕ) → x < w → y < h → a x y ≡ b x y)
       → listed m p w h f a ≡ listed m p w h g b
-  listed-same f g a b e d = ap (each (λ q. numbers-by m p f q ∷ [])) (corners-same p w h f g a b e d) ∙ numbers-same (numbers-by m p f) (numbers-by m p g) g b at
+  listed-same f g a b e d =
+      ap (each (λ q. numbers-by m p f q ∷ [])) (corners-same p w h f g a b e d) ∙ numbers-same (numbers-by m p f) (numbers-by m p g) g b at
     where
       at : (q : Place) → Candidate q → numbers-by m p f q ≡ numbers-by m p g q
       at q c = unfold numbers-by in
@@ -106,7 +109,8 @@ module _ (m : Machine) (p : RadonDetectorParams) (w h : ℕ) where
           )
 
 -- a list of corners, each with its numbers, written as far as they fit
-written-each : {A B : Type 0} (k : ℕ) (f : A → List B) (l : List A) (old : List B) → written k f l old ≡ written k (λ corner. corner) (each (λ a. f a ∷ []) l) old
+written-each : {A B : Type 0} (k : ℕ) (f : A → List B) (l : List A) (old : List B) → written k f l old
+    ≡ written k (λ corner. corner) (each (λ a. f a ∷ []) l) old
 unfolding written
 written-each {A} {B} k f l old = ap (λ (r : List B). over r old) (sym same)
   where
@@ -126,13 +130,17 @@ module _ (m : Machine) (img : List ℕ) (w h : ℕ) (p : RadonDetectorParams) (s
   pub map-is-the-rusts : (b : MapBuffers) → numberOf (map-answered img w h p b) ≡ 0
       → SameMap (sideOf w p) (sideOf h p) (p .«response_blur_radius») (map-buffersOf img w h p b) (radon-response-u8 m img w h p rust)
   unfolding map-buffersOf
-  map-is-the-rusts b z = rw (eq-eqb (numberOf (map-answered img w h p b)) 0 z) (map-as-rust m img w h p b small (runs-of w h p (length img) b refl refl refl z) rust .same)
+  map-is-the-rusts b z =
+      rw (eq-eqb (numberOf (map-answered img w h p b)) 0 z)
+      (map-as-rust m img w h p b small (runs-of w h p (length img) b refl refl refl z) rust .same)
 
   -- W and H too
   pub map-sizes-are-the-rusts : (b : MapBuffers) → numberOf (map-answered img w h p b) ≡ 0
-      → ((mappedOf img w h p b) .w ≡ (radon-response-u8 m img w h p rust) .working-w) × ((mappedOf img w h p b) .h ≡ (radon-response-u8 m img w h p rust) .working-h)
+      → ((mappedOf img w h p b) .w ≡ (radon-response-u8 m img w h p rust) .working-w)
+      × ((mappedOf img w h p b) .h ≡ (radon-response-u8 m img w h p rust) .working-h)
   unfolding mappedOf
-  map-sizes-are-the-rusts b z = rw (eq-eqb (numberOf (map-answered img w h p b)) 0 z) (sym (map-is-the-rusts b z .width), sym (map-is-the-rusts b z .height))
+  map-sizes-are-the-rusts b z =
+      rw (eq-eqb (numberOf (map-answered img w h p b)) 0 z) (sym (map-is-the-rusts b z .width), sym (map-is-the-rusts b z .height))
 
   -- ---- the finder
 
@@ -155,7 +163,9 @@ module _ (m : Machine) (img : List ℕ) (w h : ℕ) (p : RadonDetectorParams) (s
     abbrev f : ℕ → ℕ → Float
     f = mapOf (pixel img w) w h p
 
-    pub finder-leaves-the-rusts-map : SameMap (sideOf w p) (sideOf h p) (p .«response_blur_radius») ((buffersOf img w h p b) .map) (radon-response-u8 m img w h p rust)
+    -- working image, tables, response and scratch are those of the Rust's text
+    pub finder-leaves-the-rusts-map : SameMap (sideOf w p) (sideOf h p) (p .«response_blur_radius») ((buffersOf img w h p b) .map)
+        (radon-response-u8 m img w h p rust)
     unfolding buffersOf
     finder-leaves-the-rusts-map = rw (eq-eqb (numberOf (answered img w h p b)) 0 z) (left .same)
 
@@ -171,7 +181,9 @@ module _ (m : Machine) (img : List ℕ) (w h : ℕ) (p : RadonDetectorParams) (s
 
     response-at : (k : ℕ) → k < W * H → getD (after .response) k nan ≡ plane W f k
     response-at k c =
-        rw response-is (getD-take (W * H) (filled (W * H) (plane W f) (b .map .response)) k nan c ∙ getD-filled (W * H) (plane W f) (b .map .response) k nan c (omega (arith, runs .response-room)))
+        rw response-is
+        (getD-take (W * H) (filled (W * H) (plane W f) (b .map .response)) k nan c
+        ∙ getD-filled (W * H) (plane W f) (b .map .response) k nan c (omega (arith, runs .response-room)))
 
     value-at : (x y : ℕ) → x < W → y < H → value (after .response) W x y ≡ f x y
     value-at x y c d =
@@ -196,7 +208,9 @@ module _ (m : Machine) (img : List ℕ) (w h : ℕ) (p : RadonDetectorParams) (s
     }
       where
         held : (k : ℕ) → T (fits binary32 (plane W f k))
-        held k = unfold plane in map-fits (factorOf (p .«image_upsample»)) (rayOf (p .«ray_radius»)) (p .«response_blur_radius») (pixel img w) w h (k % W) (k / W)
+        held k =
+            unfold plane in map-fits (factorOf (p .«image_upsample»)) (rayOf (p .«ray_radius»)) (p .«response_blur_radius») (pixel img w) w h (k % W)
+            (k / W)
 
         good : (k : ℕ) → k < W * H → Good (plane W f k)
         good k c = unfold plane in
@@ -244,7 +258,8 @@ module _ (m : Machine) (img : List ℕ) (w h : ℕ) (p : RadonDetectorParams) (s
           ours-too = unfold found in numbers-same m p W H (numbers-by m p f) (numbers p f) f (workOf (pixel img w) w h p) at
 
       -- in parabolic mode no logarithm is asked
-      pub finder-lists-the-rusts-corners-parabolic : p .«peak_fit» ≡ Parabolic → SameList (b .list) ((buffersOf img w h p b) .list) (found-by m p (radon-response-u8 m img w h p rust))
+      pub finder-lists-the-rusts-corners-parabolic : p .«peak_fit» ≡ Parabolic
+          → SameList (b .list) ((buffersOf img w h p b) .list) (found-by m p (radon-response-u8 m img w h p rust))
       finder-lists-the-rusts-corners-parabolic e = finder-lists-the-rusts-corners (λ g. let n : _≡_ {A = ℕ} 0 1 = cc in absurd (omega arith))
 
 -- ---- there is such a machine: with our root and our logarithm, and anything in place of a panic
@@ -266,7 +281,8 @@ pub ours-is-sound : Sound ours
 unfolding ours
 ours-is-sound = record { roots = nearest-roots; starts = inr refl }
 
-pub ours-logs : (img : List ℕ) (w h : ℕ) (p : RadonDetectorParams) (b : Buffers) → Bytes img → numberOf (answered img w h p b) ≡ 0 → LogIsOurs ours img w h p
+pub ours-logs : (img : List ℕ) (w h : ℕ) (p : RadonDetectorParams) (b : Buffers) → Bytes img → numberOf (answered img w h p b) ≡ 0
+    → LogIsOurs ours img w h p
 unfolding ours ofBits
 ours-logs img w h p b small z x y c d t =
     let r = runs-by w h p (length img) (b .map) z in

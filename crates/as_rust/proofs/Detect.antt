@@ -51,7 +51,8 @@ clamp-is x = go (lt x lit-minus-half)
     apart : lt lit-half lit-minus-half ≡ false
     apart = unfold lt ofBits in refl
 
-    go : (t : Bool) → cond (lt lit-half (cond t lit-minus-half x)) lit-half (cond t lit-minus-half x) ≡ cond t lit-minus-half (cond (lt lit-half x) lit-half x)
+    go : (t : Bool) → cond (lt lit-half (cond t lit-minus-half x)) lit-half (cond t lit-minus-half x)
+        ≡ cond t lit-minus-half (cond (lt lit-half x) lit-half x)
     go true = rw apart
     go false = refl
 
@@ -219,7 +220,8 @@ module _ (m : Machine) (sound : Sound m) (v : RadonResponseView) (p : RadonDetec
   -- one candidate
   turn : (ps : List Place) (x y : ℕ) {sink : List (List Float)} (a b c d : Bool) → test (place x y) ≡ (a && (b && (c && d)))
       → sink ≡ each (λ q. numbers-by m p f q ∷ []) (keep test ps)
-      → decided (not a) (not b) (not c) (not d) sink (numbers-by m p f (place x y)) ≡ each (λ q. numbers-by m p f q ∷ []) (keep test (ps ++ (place x y ∷ [])))
+      → decided (not a) (not b) (not c) (not d) sink (numbers-by m p f (place x y))
+      ≡ each (λ q. numbers-by m p f q ∷ []) (keep test (ps ++ (place x y ∷ [])))
   turn ps x y true true true true e s = rw (keep-yes test ps (place x y) e, each-more, s)
   turn ps x y true true true false e s = rw (keep-no test ps (place x y) e) s
   turn ps x y true true false d e s = rw (keep-no test ps (place x y) e) s
@@ -236,7 +238,8 @@ module _ (m : Machine) (sound : Sound m) (v : RadonResponseView) (p : RadonDetec
   abbrev enough : ℕ → ℕ → Bool
   enough x y = leb (p .«min_cluster_size») (positives f nms (place x y))
 
-  kept : (x y : ℕ) → test (place x y) ≡ (above x y && (not (beaten f nms (place x y)) && (enough x y && isKept (bySaddle (isSaddle p g (place x y))))))
+  kept : (x y : ℕ) → test (place x y)
+      ≡ (above x y && (not (beaten f nms (place x y)) && (enough x y && isKept (bySaddle (isSaddle p g (place x y))))))
   unfolding verdict floorOf
   kept x y = tests (above x y) (not (beaten f nms (place x y))) (enough x y) (isSaddle p g (place x y))
 
@@ -268,7 +271,9 @@ module _ (m : Machine) (sound : Sound m) (v : RadonResponseView) (p : RadonDetec
       } in
       let floored = above-as-rust m t (peak w h f) (l .least) (l .most) best (f x y) (value-held x y (omega arith) (omega arith) .0) in
       let largest = max-as-rust m vs w h nms x y clear (o .long) in
-      let counted = ap (λ (n : ℕ). ltb n (p .«min_cluster_size»)) (count-as-rust m vs w h nms x y clear (o .long)) ∙ at-least (positives f nms (place x y)) (p .«min_cluster_size») in
+      let counted =
+      ap (λ (n : ℕ). ltb n (p .«min_cluster_size»)) (count-as-rust m vs w h nms x y clear (o .long))
+      ∙ at-least (positives f nms (place x y)) (p .«min_cluster_size») in
       let saddled = accepts-as-rust m sound (v .image) w h (rayOf (p .«ray_radius»)) x y (omega arith) (omega arith) within in
       rw (
         less-is m x 1 (omega arith),
@@ -311,7 +316,8 @@ module _ (m : Machine) (sound : Sound m) (v : RadonResponseView) (p : RadonDetec
         | inr z ↦ empty (low w h B (omega (arith, eqb-true h 0 z)))
       ])
       go false true e q =
-          rw (e, peak-as-rust vs w h (o .long) (some e) (o .good), good-finite (peak-good vs w h (o .long) (some e) (o .good)), ray-is, cast, cast-nms, border, twice, q)
+          let best : Good (peak w h f) = peak-good vs w h (o .long) (some e) (o .good) in
+          rw (e, peak-as-rust vs w h (o .long) (some e) (o .good), good-finite best, ray-is, cast, cast-nms, border, twice, q)
           (elim (or-true (leb w (2 * B)) (leb h (2 * B)) q) [
             | inl z ↦ empty (narrow w h B (leb-true w (2 * B) z))
             | inr z ↦ empty (low w h B (leb-true h (2 * B) z))

@@ -97,17 +97,20 @@ module _ (k : ℕ) (l : k ≤ 149) where
   right false m d e a b h = omega (arith, ap (λ (z : ℕ). z * e) h)
   right true m d e a b h = omega (arith, ap (λ (z : ℕ). z * e) h)
 
-  pub add-val : {x y : Float} {a b a′ b′ : ℕ} → Val k x a b → Val k y a′ b′ → a + a′ < 2 ^ 24 + (b + b′) → b + b′ < 2 ^ 24 + (a + a′) → Val k (x ⊕ y) (a + a′) (b + b′)
+  pub add-val : {x y : Float} {a b a′ b′ : ℕ} → Val k x a b → Val k y a′ b′ → a + a′ < 2 ^ 24 + (b + b′) → b + b′ < 2 ^ 24 + (a + a′)
+      → Val k (x ⊕ y) (a + a′) (b + b′)
   unfolding add
   add-val (val {s = s} {m = m} {e = e} p) (val {s = t} {m = n} {e = d} q) u v =
-      sum-frac s t _ _ (down e * down d) _ _ _ _ (mul-pos (down-pos e) (down-pos d)) u v (left s (m * up e) (down e) (down d) _ _ p) (right t (n * up d) (down d) (down e) _ _ q)
+      sum-frac s t _ _ (down e * down d) _ _ _ _ (mul-pos (down-pos e) (down-pos d)) u v (left s (m * up e) (down e) (down d) _ _ p)
+      (right t (n * up d) (down d) (down e) _ _ q)
 
   pub neg-val : {x : Float} {a b : ℕ} → Val k x a b → Val k (neg x) b a
   unfolding neg
   neg-val (val {s = false} h) = val h
   neg-val (val {s = true} h) = val h
 
-  pub sub-val : {x y : Float} {a b a′ b′ : ℕ} → Val k x a b → Val k y a′ b′ → a + b′ < 2 ^ 24 + (b + a′) → b + a′ < 2 ^ 24 + (a + b′) → Val k (x ⊖ y) (a + b′) (b + a′)
+  pub sub-val : {x y : Float} {a b a′ b′ : ℕ} → Val k x a b → Val k y a′ b′ → a + b′ < 2 ^ 24 + (b + a′) → b + a′ < 2 ^ 24 + (a + b′)
+      → Val k (x ⊖ y) (a + b′) (b + a′)
   unfolding sub
   sub-val p q u v = add-val p (neg-val q) u v
 
@@ -126,7 +129,8 @@ same-sign true = refl
 same-sign false = refl
 
 module _ (k : ℕ) (l : k + 1 ≤ 149) where
-  pub mul-val : {x y : Float} {a b t : ℕ} → Val k x a b → Val 1 y t 0 → a * t < 2 ^ 24 + b * t → b * t < 2 ^ 24 + a * t → Val (k + 1) (x ⊗ y) (a * t) (b * t)
+  pub mul-val : {x y : Float} {a b t : ℕ} → Val k x a b → Val 1 y t 0 → a * t < 2 ^ 24 + b * t → b * t < 2 ^ 24 + a * t
+      → Val (k + 1) (x ⊗ y) (a * t) (b * t)
   unfolding mul
   mul-val {a = a} {b = b} {t = t} (val {s = s} {m = m} {e = e} h) (val {s = false} {m = n} {e = d} g) u v =
       let p : 2 ^ (k + 1) ≡ 2 * 2 ^ k = pow-add 2 k 1 ∙ mul-comm (2 ^ k) 2 in
@@ -137,7 +141,8 @@ module _ (k : ℕ) (l : k + 1 ≤ 149) where
       let t0 : t ≡ 0 = no-factor t (down d) (down-pos d) (omega (arith, zero-mul (down d))) in
       let mz : m * up e * (n * up d) ≡ 0 = ap (λ (j : ℕ). m * up e * j) z ∙ omega arith in
       rw mz (round-frac (k + 1) l (unlike s true) 0 _ (a * t) (b * t) (mul-pos (down-pos e) (down-pos d)) u v
-      (zero-frac (2 ^ (k + 1)) (unlike s true) _ _ _ (ap (λ (j : ℕ). a * j * (down e * down d)) t0 ∙ omega arith ∙ sym (ap (λ (j : ℕ). b * j * (down e * down d)) t0))))
+      (zero-frac (2 ^ (k + 1)) (unlike s true) _ _ _
+      (ap (λ (j : ℕ). a * j * (down e * down d)) t0 ∙ omega arith ∙ sym (ap (λ (j : ℕ). b * j * (down e * down d)) t0))))
 
 -- ---- the same number in finer units, and with nothing taken away
 
@@ -182,9 +187,11 @@ not-lt {k} (val {s = s} {m = m} {e = e} {a = a} {b = b} h) (val {s = t} {m = n} 
     L = mul-le-mul-right (E * D) l
 
     go : (s t : Bool) → Frac c s M E a b → Frac c t N D a′ b′ → below t (N * E) s (M * D) ≡ false
-    go false false h g = le-ltb (N * E) (M * D) (le-of-mul-le-mul-right {k = c} (omega (arith, L, ap (λ (z : ℕ). z * D) h, ap (λ (z : ℕ). z * E) g)) (pow-pos k))
+    go false false h g =
+        le-ltb (N * E) (M * D) (le-of-mul-le-mul-right {k = c} (omega (arith, L, ap (λ (z : ℕ). z * D) h, ap (λ (z : ℕ). z * E) g)) (pow-pos k))
     go true false h g = refl
-    go true true h g = le-ltb (M * D) (N * E) (le-of-mul-le-mul-right {k = c} (omega (arith, L, ap (λ (z : ℕ). z * D) h, ap (λ (z : ℕ). z * E) g)) (pow-pos k))
+    go true true h g =
+        le-ltb (M * D) (N * E) (le-of-mul-le-mul-right {k = c} (omega (arith, L, ap (λ (z : ℕ). z * D) h, ap (λ (z : ℕ). z * E) g)) (pow-pos k))
     go false true h g =
         let z : N * E + M * D ≤ 0 = le-of-mul-le-mul-right {k = c} (omega (arith, L, ap (λ (z : ℕ). z * D) h, ap (λ (z : ℕ). z * E) g)) (pow-pos k) in
         le-ltb 0 (N * E + M * D) z
@@ -215,7 +222,8 @@ none-val = round-frac 0 (lit≤ tt) true 0 1 0 0 (lit< tt) (omega arith) (omega 
 
 pub floor-val : {k : ℕ} {x : Float} {a : ℕ} (q : ℕ) → Val k x a 0 → q < 2 ^ 24 → a / 2 ^ k ≡ q → Val 0 (floor x) q 0
 unfolding floor
-floor-val {k} q (val {s = false} {m = m} {e = e} {a = a} h) b i = rw (quotient (2 ^ k) (m * up e) (down e) a (pow-pos k) (down-pos e) h, i) (whole-val q b)
+floor-val {k} q (val {s = false} {m = m} {e = e} {a = a} h) b i =
+    rw (quotient (2 ^ k) (m * up e) (down e) a (pow-pos k) (down-pos e) h, i) (whole-val q b)
 floor-val {k} q (val {s = true} {m = m} {e = e} {a = a} h) b i =
     let z = nothing (2 ^ k) (m * up e) (down e) a (pow-pos k) (down-pos e) h in
     let n : (m * up e + (down e - 1)) / down e ≡ 0 = div-eq-of-lt (omega (arith, down-pos e)) in

@@ -1,4 +1,5 @@
--- Every index at which the Rust's text reads lies in its slice, which has w * h entries, at the places where the text reads it: by the Rust's file and line. Assumes nothing.
+-- Every index at which the Rust's text reads lies in its slice, which has w * h entries: by the Rust's file and line, where the text reads it.
+-- Assumes nothing.
 use Prim.Native.Nat.{ℕ, _+_, _-_, _*_, _/_, _≤_, _<_, min}
 use native.Mathlib.Omega.{arith}
 use Rattle.grid.specs.Plane.{pixel-in}
@@ -12,7 +13,8 @@ at w h x y a b = pixel-in a b
 
 -- response.rs 196-199, of an output pixel
 pub upsampling-reads : (w h ix iy : ℕ) → ix < 2 * w → iy < 2 * h
-    → (iy / 2 * w + ix / 2 < w * h) × (iy / 2 * w + after w (ix / 2) < w * h) × (after h (iy / 2) * w + ix / 2 < w * h) × (after h (iy / 2) * w + after w (ix / 2) < w * h)
+    → (iy / 2 * w + ix / 2 < w * h) × (iy / 2 * w + after w (ix / 2) < w * h)
+    × (after h (iy / 2) * w + ix / 2 < w * h) × (after h (iy / 2) * w + after w (ix / 2) < w * h)
 upsampling-reads w h ix iy a b = (
   at w h (ix / 2) (iy / 2) (omega arith) (omega arith),
   at w h (after w (ix / 2)) (iy / 2) (omega arith) (omega arith),
@@ -30,8 +32,12 @@ rising-reads w h x y b c d = at w h (x + 1) (y - 1) (omega arith) (omega arith)
 -- 325, 333, 341, 349: the last pixels of the rays
 pub ray-end-reads : (w h r x y : ℕ) → Inside w h r x y
     → (y * w + (x + r) < w * h) × ((y + r) * w + x < w * h) × ((y + r) * w + (x + r) < w * h) × ((y + r) * w + (x - r) < w * h)
-ray-end-reads w h r x y c =
-    (at w h (x + r) y (omega arith) (omega arith), at w h x (y + r) (omega arith) (omega arith), at w h (x + r) (y + r) (omega arith) (omega arith), at w h (x - r) (y + r) (omega arith) (omega arith))
+ray-end-reads w h r x y c = (
+  at w h (x + r) y (omega arith) (omega arith),
+  at w h x (y + r) (omega arith) (omega arith),
+  at w h (x + r) (y + r) (omega arith) (omega arith),
+  at w h (x - r) (y + r) (omega arith) (omega arith),
+)
 
 -- 327, 335, 343, 351: the pixels before the first, where the tests let them be read
 pub ray-start-reads : (w h r x y : ℕ) → Inside w h r x y

@@ -14,7 +14,8 @@ use Rattle.as_rust.specs.Machine.{put, times, for, chunks}
 use Rattle.as_rust.proofs.Machine.{put-is}
 
 module _ {S : Type 0} where
-  times-keeps : (P : ℕ → S → Type 0) (n : ℕ) (step : ℕ → S → S) (s : S) → P 0 s → ((i : ℕ) (t : S) → i < n → P i t → P (i + 1) (step i t)) → P n (times n step s)
+  times-keeps : (P : ℕ → S → Type 0) (n : ℕ) (step : ℕ → S → S) (s : S) → P 0 s → ((i : ℕ) (t : S) → i < n → P i t → P (i + 1) (step i t))
+      → P n (times n step s)
   unfolding times
   times-keeps P zero step s p k = p
   times-keeps P (suc n) step s p k =
@@ -68,7 +69,8 @@ rows-loop w h g xs room step k =
     (omega arith)
 
 -- a value at each pixel
-pub pixels-loop : {A : Type 0} (w h : ℕ) (g : ℕ → ℕ → A) (px : ℕ → ℕ → A) (xs : List A) → w * h ≤ length xs → ((x y : ℕ) → x < w → y < h → px y x ≡ g x y)
+pub pixels-loop : {A : Type 0} (w h : ℕ) (g : ℕ → ℕ → A) (px : ℕ → ℕ → A) (xs : List A) → w * h ≤ length xs
+    → ((x y : ℕ) → x < w → y < h → px y x ≡ g x y)
     → for 0 h (λ y out. for 0 w (λ x out. put out (y * w + x) (px y x)) out) xs ≡ filled (w * h) (plane w g) xs
 pixels-loop w h g px xs room e =
     rows-loop w h g xs room (λ y out. for 0 w (λ x out. put out (y * w + x) (px y x)) out) (λ y ys b l q.

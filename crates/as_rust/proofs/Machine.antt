@@ -1,4 +1,5 @@
--- Where nothing leaves its type and no index its slice, the machine's operations are the numbers' own, whatever stands for a panic or a wrap. Assumes nothing.
+-- Where nothing leaves its type and no index its slice, the machine's operations are the numbers' own, whatever stands for a panic or a wrap.
+-- Assumes nothing.
 use mathlib.Core.Path.{_≡_, refl}
 use mathlib.Core.List.{List, [], _∷_}
 use Prim.Native.Nat.{ℕ, zero, suc, _-_, _%_, _^_, _≤_, _<_}

@@ -55,7 +55,8 @@ taken g zero f xs [] l e = refl
 taken g zero f xs (y ∷ ys) l e = absurd (omega arith)
 taken g (suc n) f [] ys l e = absurd (not-suc-le-zero l)
 taken g (suc n) f (x ∷ xs) [] l e = absurd (omega arith)
-taken {B = B} g (suc n) f (x ∷ xs) (y ∷ ys) l e = ap (λ (r : List B). g (f zero) ∷ r) (taken g n (λ k. f (suc k)) xs ys (le-of-suc-le-suc l) (omega arith))
+taken {B = B} g (suc n) f (x ∷ xs) (y ∷ ys) l e =
+    ap (λ (r : List B). g (f zero) ∷ r) (taken g n (λ k. f (suc k)) xs ys (le-of-suc-le-suc l) (omega arith))
 
 pub taken-same : {A : Type 0} (n : ℕ) (f : ℕ → A) (xs ys : List A) → n ≤ length xs → length ys ≡ n → take n (filled n f xs) ≡ filled n f ys
 unfolding filled
@@ -63,7 +64,8 @@ taken-same zero f xs [] l e = refl
 taken-same zero f xs (y ∷ ys) l e = absurd (omega arith)
 taken-same (suc n) f [] ys l e = absurd (not-suc-le-zero l)
 taken-same (suc n) f (x ∷ xs) [] l e = absurd (omega arith)
-taken-same {A} (suc n) f (x ∷ xs) (y ∷ ys) l e = ap (λ (r : List A). f zero ∷ r) (taken-same n (λ k. f (suc k)) xs ys (le-of-suc-le-suc l) (omega arith))
+taken-same {A} (suc n) f (x ∷ xs) (y ∷ ys) l e =
+    ap (λ (r : List A). f zero ∷ r) (taken-same n (λ k. f (suc k)) xs ys (le-of-suc-le-suc l) (omega arith))
 
 -- ---- 159-173: the lengths
 
@@ -78,14 +80,23 @@ pub record Sized (w h : ℕ) (b : RadonBuffers) : Type 0 where
   pub response-long : length (b .response) ≡ w * h
   pub scratch-long : length (b .blur-scratch) ≡ w * h
 
-pub ensured : (m : Machine) (b : RadonBuffers) (w h up : ℕ) → 1 ≤ up → up ≤ 2 → w ≤ 4096 → h ≤ 4096 → Sized (up * w) (up * h) (ensure-capacity m b w h up)
+pub ensured : (m : Machine) (b : RadonBuffers) (w h up : ℕ) → 1 ≤ up → up ≤ 2 → w ≤ 4096 → h ≤ 4096
+    → Sized (up * w) (up * h) (ensure-capacity m b w h up)
 unfolding ensure-capacity
 ensured m b w h up l u wide high =
     let one : max up 1 ≡ up = omega arith in
     let W : up * w ≤ 8192 = side-most u wide in
     let H : up * h ≤ 8192 = side-most u high in
     let n : up * w * (up * h) ≤ 8192 * 8192 = mul-le-mul W H in
-    rw (one, mul-comm w up, mul-comm h up, usize-is m (up * w) (omega arith), usize-is m (up * h) (omega arith), usize-is m (up * w * (up * h)) (omega arith))
+    rw (
+      one,
+      mul-comm w up,
+      mul-comm h up,
+      usize-is m (up * w) (omega arith),
+      usize-is m (up * h) (omega arith),
+      usize-is m (up * w * (up * h))
+          (omega arith),
+    )
     (record {
       width = refl;
       height = refl;
@@ -132,7 +143,8 @@ module _ (m : Machine) (img : List ℕ) (w h : ℕ) (small : Bytes img) (whole :
       long : length (resize buffer n 0) ≡ 2 * w * (2 * h)
       long = resize-long buffer n 0 ∙ four
 
-      same : filled (2 * w * (2 * h)) (plane (2 * w) (upAt (pixel img w) w h)) (resize buffer n 0) ≡ filled (2 * w * (2 * h)) (plane (2 * w) (workAt 2 (pixel img w) w h)) (resize buffer n 0)
+      same : filled (2 * w * (2 * h)) (plane (2 * w) (upAt (pixel img w) w h)) (resize buffer n 0)
+          ≡ filled (2 * w * (2 * h)) (plane (2 * w) (workAt 2 (pixel img w) w h)) (resize buffer n 0)
       same = unfold workAt in refl
   working-is (suc (suc (suc k))) buffer l u e = absurd (omega arith)
 
@@ -152,12 +164,18 @@ module _ (m : Machine) (img : List ℕ) (w h : ℕ) (small : Bytes img) (whole :
       flat i = unfold plane in work-most factor (pixel img w) w h (i % (factor * w)) (i / (factor * w)) 255 most
 
       entry : (i : ℕ) → Dec (i < factor * w * (factor * h)) → getD out i 0 ≤ 255
-      entry i (yes b) = rw (k .is, getD-filled (factor * w * (factor * h)) (plane (factor * w) (workAt factor (pixel img w) w h)) (k .old) i 0 b (omega (arith, k .long))) (flat i)
+      entry i (yes b) =
+          rw (
+            k .is,
+            getD-filled (factor * w * (factor * h)) (plane (factor * w) (workAt factor (pixel img w) w h)) (k .old) i 0 b
+                (omega (arith, k .long)),
+          ) (flat i)
       entry i (no b) =
           let n : length out ≡ factor * w * (factor * h) = ap length (k .is) ∙ length-filled _ _ (k .old) ∙ k .long in
           rw (List·getD-eq-default out 0 {n = i} (omega arith)) (omega arith)
 
-  pub work-at : {factor : ℕ} {out : List ℕ} → Work factor out → (x y : ℕ) → x < factor * w → y < factor * h → pixel out (factor * w) x y ≡ workAt factor (pixel img w) w h x y
+  pub work-at : {factor : ℕ} {out : List ℕ} → Work factor out → (x y : ℕ) → x < factor * w → y < factor * h → pixel out (factor * w) x y
+      ≡ workAt factor (pixel img w) w h x y
   work-at {factor} k x y a b =
       rw (k .is) (getD-plane a (factor * w * (factor * h)) (workAt factor (pixel img w) w h) (k .old) y 0 (pixel-in a b) (omega (arith, k .long)))
 
@@ -185,7 +203,8 @@ module _ (m : Machine) (img : List ℕ) (W H r blur : ℕ) (work : ℕ → ℕ �
   }
 
   -- our table of the working image, as numbers, is the Rust's
-  pub table-same : (d : Way) (t : List ℤ) → Sums d img W H t → (old : List ℕ) → W * H ≤ length old → map pos (take (W * H) (filled (W * H) (plane W (runSum d work W)) old)) ≡ t
+  pub table-same : (d : Way) (t : List ℤ) → Sums d img W H t → (old : List ℕ) → W * H ≤ length old
+      → map pos (take (W * H) (filled (W * H) (plane W (runSum d work W)) old)) ≡ t
   unfolding plane
   table-same d t q old room =
       taken pos (W * H) (plane W (runSum d work W)) old t room (q .long)
@@ -221,7 +240,8 @@ module _ (m : Machine) (img : List ℕ) (W H r blur : ℕ) (work : ℕ → ℕ �
   pub scratch-is : 0 < blur → after .1 ≡ filled (W * H) (plane W (rowMean (responseAt work W H r) W blur)) (b .blur-scratch)
   scratch-is some = blurred .scratched-is ∙ go blur some
     where
-      go : (blur : ℕ) → 0 < blur → scratched (valueAt raw W) W H blur (b .blur-scratch) ≡ filled (W * H) (plane W (rowMean (responseAt work W H r) W blur)) (b .blur-scratch)
+      go : (blur : ℕ) → 0 < blur → scratched (valueAt raw W) W H blur (b .blur-scratch)
+          ≡ filled (W * H) (plane W (rowMean (responseAt work W H r) W blur)) (b .blur-scratch)
       go zero l = absurd (omega arith)
       go (suc n) l = unfold scratched in
           plane-ext W H _ _ (b .blur-scratch) (λ x y a c. rowMean-ext (valueAt raw W) (responseAt work W H r) W (suc n) x y (λ j d. raw-at j y d c))
@@ -276,7 +296,8 @@ module _ (m : Machine) (img : List ℕ) (w h : ℕ) (p : RadonDetectorParams) (b
           rising = table rise _ (t .rising) (b .neg) (runs .neg-room);
           response = taken-same (W * H) _ (b .response) (sized .response) (runs .response-room) (sized-is .response-long)
               ∙ sym (response-is m work W H r blur f is i sized sized-is (runs .ray-most) (runs .blur-most));
-          scratch = λ some. scratch-taken blur some ∙ sym (scratch-is m work W H r blur f is i sized sized-is (runs .ray-most) (runs .blur-most) some);
+          scratch =
+              λ some. scratch-taken blur some ∙ sym (scratch-is m work W H r blur f is i sized sized-is (runs .ray-most) (runs .blur-most) some);
         };
         image = i;
       })
@@ -285,4 +306,5 @@ module _ (m : Machine) (img : List ℕ) (w h : ℕ) (p : RadonDetectorParams) (b
           → take (F * w * (F * h)) (scratched (rawAt F (rayOf (p .«ray_radius»)) (pixel img w) w h) (F * w) (F * h) blur (b .scratch))
           ≡ filled (F * w * (F * h)) (plane (F * w) (rowMean (responseAt (workAt F (pixel img w) w h) (F * w) (F * h) (rayOf (p .«ray_radius»))) (F * w) blur)) (sized .blur-scratch)
       scratch-taken zero l = absurd (omega arith)
-      scratch-taken (suc k) l = unfold scratched rawAt in taken-same (F * w * (F * h)) _ (b .scratch) (sized .blur-scratch) (runs .scratch-room) (sized-is .scratch-long)
+      scratch-taken (suc k) l =
+          unfold scratched rawAt in taken-same (F * w * (F * h)) _ (b .scratch) (sized .blur-scratch) (runs .scratch-room) (sized-is .scratch-long)

@@ -1,4 +1,5 @@
--- The Rust's window tests, over signed offsets with the centre left out and places outside passed over, are document 01's where the window lies inside. Assumes nothing.
+-- The Rust's window tests, over signed offsets with the centre left out and places outside passed over, are document 01's where the window lies
+-- inside. Assumes nothing.
 use mathlib.Core.Path.{_≡_, refl, sym, ap, _∙_}
 use mathlib.Core.Bool.{Bool, true, false, not, cond, _&&_, _||_, true≢false}
 use mathlib.Core.List.{List, [], _∷_, _++_}
@@ -51,7 +52,8 @@ centre x i (suc r) b = go (ltb i (suc r)) refl
         last false f = sym (ne-eqb (x - suc r + i) x (λ z. let w : i - suc r ≡ 0 = omega arith in true≢false (sym (eq-eqb (i - suc r) 0 w) ∙ f)))
 
 -- a loop over them is a loop over the columns or rows about x
-signed-for : {S : Type 0} (r x : ℕ) (f : ℤ → S → S) (g : ℕ → S → S) (s : S) → r ≤ x → ((i : ℕ) (t : S) → i < 2 * r + 1 → f (pos i -ℤ pos r) t ≡ g (x - r + i) t)
+signed-for : {S : Type 0} (r x : ℕ) (f : ℤ → S → S) (g : ℕ → S → S) (s : S) → r ≤ x
+    → ((i : ℕ) (t : S) → i < 2 * r + 1 → f (pos i -ℤ pos r) t ≡ g (x - r + i) t)
     → for-signed (negℤ (pos r)) (pos r) f s ≡ for (x - r) (x + r + 1) g s
 unfolding for-signed
 signed-for r x f g s b e =
@@ -88,12 +90,15 @@ module _ (m : Machine) (s : List Float) (w h r x y : ℕ) (c : Clear w h r x y) 
       ≡ for (y - r) (y + r + 1) (λ b t. for (x - r) (x + r + 1) (λ a t. k b a t) t) z
   sym-rect g k z e =
       rw (negated m r (c .small))
-      (signed-for r y (λ dy t. for-signed (negℤ (pos r)) (pos r) (λ dx t. g dy dx t) t) (λ b t. for (x - r) (x + r + 1) (λ a t. k b a t) t) z (c .above)
+      (signed-for r y (λ dy t. for-signed (negℤ (pos r)) (pos r) (λ dx t. g dy dx t) t) (λ b t. for (x - r) (x + r + 1) (λ a t. k b a t) t) z
+      (c .above)
       (λ j t b. signed-for r x (λ dx t. g (pos j -ℤ pos r) dx t) (λ a t. k (y - r + j) a t) t (c .left) (λ i t d. e i j t d b)))
 
   -- what the loop's body reads at an offset
   reads : (i j : ℕ) → i < 2 * r + 1 → j < 2 * r + 1 → float-at m s ((y - r + j) * w + (x - r + i)) ≡ f (x - r + i) (y - r + j)
-  reads i j a b = inside s ((y - r + j) * w + (x - r + i)) _ nan (omega (arith, long, pixel-in {w = w} {h = h} {x = x - r + i} {y = y - r + j} (omega arith) (omega arith)))
+  reads i j a b =
+      inside s ((y - r + j) * w + (x - r + i)) _ nan
+      (omega (arith, long, pixel-in {w = w} {h = h} {x = x - r + i} {y = y - r + j} (omega arith) (omega arith)))
 
   -- a turn's test
   abbrev beats : ℕ → ℕ → Bool
@@ -124,7 +129,8 @@ module _ (m : Machine) (s : List Float) (w h r x y : ℕ) (c : Clear w h r x y) 
       go a b true = refl
       go a b false = at-place (eqb a x) (eqb b y) (beats a b) refl refl refl
         where
-          at-place : (p q t : Bool) → eqb a x ≡ p → eqb b y ≡ q → beats a b ≡ t → cond (p && q) true (cond t false true) ≡ not (any (λ q. lt (f x y) (at f q)) (place a b ∷ []))
+          at-place : (p q t : Bool) → eqb a x ≡ p → eqb b y ≡ q → beats a b ≡ t → cond (p && q) true (cond t false true)
+              ≡ not (any (λ q. lt (f x y) (at f q)) (place a b ∷ []))
           at-place true true t u v e =
               let d : beats a b ≡ false = (λ i. lt (f x y) (f (eqb-true a x u i) (eqb-true b y v i))) ∙ lt-itself (f x y) in
               not-any-one _ (place a b) false d
@@ -154,7 +160,8 @@ module _ (m : Machine) (s : List Float) (w h r x y : ℕ) (c : Clear w h r x y) 
       ))
       ∙ rect-loop (λ l n. n ≡ count counts l) (x - r) (x + r + 1) (y - r) (y + r + 1)
       (λ b a n. cond (eqb a x && eqb b y) n (cond (lt lit-0 (f a b)) (u32 m (n + 1)) n)) 0 (omega arith) (omega arith) (count-none _)
-      (λ a b n _ p _ q e. rw (u32-is m (n + 1) (few a b n p q e)) (go (before (x - r) (x + r + 1) (y - r) a b) a b n e (eqb a x && eqb b y) (lt lit-0 (f a b)) refl refl)))
+      (λ a b n _ p _ q e. rw (u32-is m (n + 1) (few a b n p q e))
+      (go (before (x - r) (x + r + 1) (y - r) a b) a b n e (eqb a x && eqb b y) (lt lit-0 (f a b)) refl refl)))
     where
       -- the count is at most the number of places passed
       few : (a b n : ℕ) → a < x + r + 1 → b < y + r + 1 → n ≡ count counts (before (x - r) (x + r + 1) (y - r) a b) → n + 1 < 2 ^ 32

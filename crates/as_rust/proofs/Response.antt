@@ -42,7 +42,8 @@ None d w r x y = Reach d w (lowx d x r) (lowy d y r) × (min (min (lowx d x r) (
 
 module _ (m : Machine) (img : List ℕ) (w h r x y : ℕ) (i : Image img w h) (small : r ≤ 7) (c : Inside w h r x y) where
   -- a difference of two entries, in i64
-  ray-diff : (d : Way) {t : List ℤ} (s : Sums d img w h t) (b : Bool) (hi j : ℕ) → hi ≡ endy d y r * w + endx d x r → (b ≡ true → Before d w h r x y j) → (b ≡ false → None d w r x y)
+  ray-diff : (d : Way) {t : List ℤ} (s : Sums d img w h t) (b : Bool) (hi j : ℕ) → hi ≡ endy d y r * w + endx d x r
+      → (b ≡ true → Before d w h r x y j) → (b ≡ false → None d w r x y)
       → i64 m (entry-at m t hi -ℤ cond b (entry-at m t j) (pos 0)) ≡ pos (ray d (pixel img w) r x y)
   ray-diff d {t} s b hi j p u v =
       rw (p, s .at (endx d x r) (endy d y r) _ (in-x d) (in-y d), lo b u v, minus _ _ _ (ray-is d (pixel img w) w h r x y c)) (i64-is m _ fits)
@@ -170,7 +171,8 @@ module _ (m : Machine) (img : List ℕ) (cs : Cumsums) (b : Built img cs) (r : �
     unfolding s-d2
     s-d2-is =
         rw (usize-is m (x + r + 1) (omega (arith, c .right, b .image .wide)))
-        (ray-diff m img w h r x y (b .image) small c rise (b .rising) (ltb r y && ltb (x + r + 1) w) _ _ (λ i. (y + r) * w + less-is m x r (c .left) i)
+        (ray-diff m img w h r x y (b .image) small c rise (b .rising) (ltb r y && ltb (x + r + 1) w) _ _
+        (λ i. (y + r) * w + less-is m x r (c .left) i)
         (λ e.
         let l : r < y = ltb-true r y (and-true (ltb r y) (ltb (x + r + 1) w) e .0) in
         let k : x + r + 1 < w = ltb-true (x + r + 1) w (and-true (ltb r y) (ltb (x + r + 1) w) e .1) in
@@ -201,7 +203,8 @@ module _ (m : Machine) (img : List ℕ) (cs : Cumsums) (b : Built img cs) (r : �
   out : (x y : ℕ) → (Inside w h r x y → ⊥) → lit-0 ≡ G x y
   out x y n = response-out f w h r x y n
 
-  row-as-rust : (y : ℕ) {xs : List Float} → 2 * r < w → y < h → w * h ≤ length xs → Row w h G xs xs y 0 → Row w h G xs (compute-response-row m cs r y (y * w) w xs) y w
+  row-as-rust : (y : ℕ) {xs : List Float} → 2 * r < w → y < h → w * h ≤ length xs → Row w h G xs xs y 0
+      → Row w h G xs (compute-response-row m cs r y (y * w) w xs) y w
   unfolding compute-response-row
   row-as-rust y {xs} l below room q =
       rw (usize-is m (y + r) (omega (arith, b .image .high)), less-is m w r (omega arith), ends) (go (ltb y r || leb h (y + r)) refl)
@@ -236,7 +239,8 @@ module _ (m : Machine) (img : List ℕ) (cs : Cumsums) (b : Built img cs) (r : �
       all-plane e k = unfold plane in e _ _
 
       go : (t : Bool) → (leb w (2 * r) || leb h (2 * r)) ≡ t
-          → cond t (for 0 (length xs) (λ i row. put row i lit-0) xs) (chunks w (λ y at n row. compute-response-row m cs r y at n row) xs) ≡ filled (w * h) (plane w G) xs
+          → cond t (for 0 (length xs) (λ i row. put row i lit-0) xs) (chunks w (λ y at n row. compute-response-row m cs r y at n row) xs)
+          ≡ filled (w * h) (plane w G) xs
       go true e =
           fill-loop (plane w G) lit-0 (w * h) xs long
           (λ k _. all-plane (λ x y. out x y (λ c. elim (or-true (leb w (2 * r)) (leb h (2 * r)) e) [

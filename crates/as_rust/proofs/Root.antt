@@ -141,22 +141,26 @@ module _ (x : Float) (X : Pattern x) where
     over-is : both * both < fourfold (X .bits)
         → sum-top y r * sum-top y r * bottom x < 4 * top x * (sum-bottom y r * sum-bottom y r)
     unfolding fourfold
-    over-is = over-units (2 ^ 149) (sum-top y r) (sum-bottom y r) both (top x) (bottom x) (val (X .bits)) unit-pos (X .under) under-both sums (X .worth-is)
+    over-is =
+        over-units (2 ^ 149) (sum-top y r) (sum-bottom y r) both (top x) (bottom x) (val (X .bits)) unit-pos (X .under) under-both sums (X .worth-is)
 
     is-over : sum-top y r * sum-top y r * bottom x < 4 * top x * (sum-bottom y r * sum-bottom y r)
         → both * both < fourfold (X .bits)
     unfolding fourfold
-    is-over = units-over (2 ^ 149) (sum-top y r) (sum-bottom y r) both (top x) (bottom x) (val (X .bits)) unit-pos (X .under) under-both sums (X .worth-is)
+    is-over =
+        units-over (2 ^ 149) (sum-top y r) (sum-bottom y r) both (top x) (bottom x) (val (X .bits)) unit-pos (X .under) under-both sums (X .worth-is)
 
     under-is : fourfold (X .bits) < both * both
         → 4 * top x * (sum-bottom y r * sum-bottom y r) < sum-top y r * sum-top y r * bottom x
     unfolding fourfold
-    under-is = under-units (2 ^ 149) (sum-top y r) (sum-bottom y r) both (top x) (bottom x) (val (X .bits)) unit-pos (X .under) under-both sums (X .worth-is)
+    under-is =
+        under-units (2 ^ 149) (sum-top y r) (sum-bottom y r) both (top x) (bottom x) (val (X .bits)) unit-pos (X .under) under-both sums (X .worth-is)
 
     is-under : 4 * top x * (sum-bottom y r * sum-bottom y r) < sum-top y r * sum-top y r * bottom x
         → fourfold (X .bits) < both * both
     unfolding fourfold
-    is-under = units-under (2 ^ 149) (sum-top y r) (sum-bottom y r) both (top x) (bottom x) (val (X .bits)) unit-pos (X .under) under-both sums (X .worth-is)
+    is-under =
+        units-under (2 ^ 149) (sum-top y r) (sum-bottom y r) both (top x) (bottom x) (val (X .bits)) unit-pos (X .under) under-both sums (X .worth-is)
 
     order : val (Y .bits) < val (Z .bits) → top y * bottom r < top r * bottom y
     order = less-units (2 ^ 149) (top y) (bottom y) (top r) (bottom r) _ _ unit-pos (Y .under) (Z .under) (Y .worth-is) (Z .worth-is)
@@ -177,7 +181,9 @@ module _ (x : Float) (X : Pattern x) where
         over-is y root Y R (nearer-than-below (X .bits) (X .below) (Y .bits) (val-less (Y .bits) (rootBits (X .bits)) (order-back y root Y R l)));
     under = λ y f p l.
         let Y = pattern-of y f p in
-        under-is y root Y R (rw (swapped (val (Y .bits)) (val (rootBits (X .bits)))) (nearer-than-above (X .bits) (X .below) (Y .bits) (val-less (rootBits (X .bits)) (Y .bits) (order-back root y R Y l))));
+        under-is y root Y R
+        (rw (swapped (val (Y .bits)) (val (rootBits (X .bits))))
+        (nearer-than-above (X .bits) (X .below) (Y .bits) (val-less (rootBits (X .bits)) (Y .bits) (order-back root y R Y l))));
   }
 
   -- and no other is

@@ -56,7 +56,8 @@ module _ {A B C : Type 0} where
   made g h z (b ∷ l) = made g h (g z (h b)) l
 
   -- a part of the state
-  part : (z : A) (p : A → B) (g : A → C → A) (k : B → C → B) (l : List C) → ((s : A) (c : C) → p (g s c) ≡ k (p s) c) → p (foldl g z l) ≡ foldl k (p z) l
+  part : (z : A) (p : A → B) (g : A → C → A) (k : B → C → B) (l : List C) → ((s : A) (c : C) → p (g s c) ≡ k (p s) c) → p (foldl g z l)
+      ≡ foldl k (p z) l
   part z p g k [] e = refl
   part z p g k (c ∷ l) e = part (g z c) p g k l e ∙ ap (λ (s : B). foldl k s l) (e z c)
 
@@ -96,7 +97,8 @@ module _ (m : Machine) (k : ℕ) (l : k ≤ 7) where
   unfolding offset each
   disk-is = ap (each (λ o. (as-f32-signed (o .0), as-f32-signed (o .1)) ∷ [])) (offsets-are m k l) ∙ twice (disk k)
     where
-      twice : (ps : List Place) → each {B = Two} (λ o. (as-f32-signed (o .0), as-f32-signed (o .1)) ∷ []) (each (λ p. signed k p ∷ []) ps) ≡ each (λ p. floats k p ∷ []) ps
+      twice : (ps : List Place) → each {B = Two} (λ o. (as-f32-signed (o .0), as-f32-signed (o .1)) ∷ []) (each (λ p. signed k p ∷ []) ps)
+          ≡ each (λ p. floats k p ∷ []) ps
       twice [] = refl
       twice (p ∷ ps) = ap (λ (r : List Two). floats k p ∷ r) (twice ps)
 
@@ -106,13 +108,16 @@ module _ (m : Machine) (k : ℕ) (l : k ≤ 7) where
   sum-is : (start : Float) → (start ≡ lit-0) ⊎ (start ≡ lit-minus-0) → foldl momentStep start (disk-of m k) ≡ momentsOf k .r2
   unfolding momentsOf overDisk momentAdded from-minus
   sum-is start e =
-      ap (foldl momentStep start) disk-is ∙ made momentStep (floats k) start (disk k) ∙ begin e ∙ sym (part noMoments (λ s. s .r2) _ _ (disk k) (λ s p. refl))
+      ap (foldl momentStep start) disk-is ∙ made momentStep (floats k) start (disk k) ∙ begin e ∙ sym
+      (part noMoments (λ s. s .r2) _ _ (disk k) (λ s p. refl))
     where
-      begin : (start ≡ lit-0) ⊎ (start ≡ lit-minus-0) → foldl (λ s p. momentStep s (floats k p)) start (disk k) ≡ foldl (λ s p. momentStep s (floats k p)) lit-0 (disk k)
+      begin : (start ≡ lit-0) ⊎ (start ≡ lit-minus-0) → foldl (λ s p. momentStep s (floats k p)) start (disk k)
+          ≡ foldl (λ s p. momentStep s (floats k p)) lit-0 (disk k)
       begin (inl q) = rw q
       begin (inr q) = rw q (alike-same _ _ (every-at from-minus 8 either-start k (omega arith)))
 
-  norms-are : (mean : Float) → foldl {B = Three} (normStep mean) (lit-0, lit-0, lit-0) (disk-of m k) ≡ (normsOf mean k .u, normsOf mean k .v, normsOf mean k .xy)
+  norms-are : (mean : Float) → foldl {B = Three} (normStep mean) (lit-0, lit-0, lit-0) (disk-of m k)
+      ≡ (normsOf mean k .u, normsOf mean k .v, normsOf mean k .xy)
   unfolding normsOf overDisk normAdded
   norms-are mean =
       ap (foldl {B = Three} (normStep mean) (lit-0, lit-0, lit-0)) disk-is
@@ -123,7 +128,8 @@ module _ (m : Machine) (k : ℕ) (l : k ≤ 7) where
   unfolding meanOf
   mean-is sound = rw (count-is, sum-is (m .start) (sound .starts))
 
-  pub new-is : Sound m → new m k ≡ record { k = k; mean-r2 = saddleOf k .«mean_r2»; inv-norms = (saddleOf k .«inv_u», saddleOf k .«inv_v», saddleOf k .«inv_xy») }
+  pub new-is : Sound m → new m k
+      ≡ record { k = k; mean-r2 = saddleOf k .«mean_r2»; inv-norms = (saddleOf k .«inv_u», saddleOf k .«inv_v», saddleOf k .«inv_xy») }
   unfolding new saddleOf
   new-is sound = rw (mean-is sound, norms-are (meanOf k))
 
@@ -189,7 +195,8 @@ module _ (m : Machine) (sound : Sound m) (image : List ℕ) (w h k x y : ℕ) (l
   unfolding disk
   square = all-keep (InRect 0 (side k) 0 (side k)) (inDisk k) (rect 0 (side k) 0 (side k)) (all-rect 0 (side k) 0 (side k))
 
-  sums-are : foldl {B = Three} sumStep (lit-0, lit-0, lit-0) (offsets m k) ≡ (let s = sumsOf (saddleOf k) k (pixel image w) x y in (s .u, s .v, s .xy))
+  sums-are : foldl {B = Three} sumStep (lit-0, lit-0, lit-0) (offsets m k)
+      ≡ (let s = sumsOf (saddleOf k) k (pixel image w) x y in (s .u, s .v, s .xy))
   unfolding sumsOf overDisk added
   sums-are =
       ap (foldl {B = Three} sumStep (lit-0, lit-0, lit-0)) (offsets-are m k most)
@@ -199,8 +206,10 @@ module _ (m : Machine) (sound : Sound m) (image : List ℕ) (w h k x y : ℕ) (l
       ∙ sym (part noSums (λ s. (s .u, s .v, s .xy)) _ ourStep (disk k) (λ s p. refl))
 
   -- the machine's root is document 01's
-  spread-is : m .sqrt (spreadSquared (saddleOf k) (sumsOf (saddleOf k) k (pixel image w) x y)) ≡ nearestRoot (spreadSquared (saddleOf k) (sumsOf (saddleOf k) k (pixel image w) x y))
-  spread-is = root-is (m .sqrt) (sound .roots) _ _ (unfold squares in add-fits binary32 _ _) (never-outside k (pixel image w) x y least most (c .deep))
+  spread-is : m .sqrt (spreadSquared (saddleOf k) (sumsOf (saddleOf k) k (pixel image w) x y))
+      ≡ nearestRoot (spreadSquared (saddleOf k) (sumsOf (saddleOf k) k (pixel image w) x y))
+  spread-is =
+      root-is (m .sqrt) (sound .roots) _ _ (unfold squares in add-fits binary32 _ _) (never-outside k (pixel image w) x y least most (c .deep))
 
   pub accepts-as-rust : accepts m (new m k) image w x y ≡ isKept (bySaddle (saddleAt (saddleOf k) k (pixel image w) x y))
   unfolding accepts

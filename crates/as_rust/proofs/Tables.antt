@@ -72,7 +72,8 @@ module _ (m : Machine) (img : List ℕ) (w h : ℕ) (i : Image img w h) (old : L
   row-sums =
       filled-sums along
       (rows-loop w h (run along img w) old (omega arith) _ (λ y ys b l q.
-      for-keeps {S = ℤ × List ℤ} (λ x s. (s .0 ≡ pos (upTo along (pixel img w) w x (y + 1))) × Row w h (run along img w) ys (s .1) y x) 0 w _ (pos 0, ys) (omega arith)
+      for-keeps {S = ℤ × List ℤ} (λ x s. (s .0 ≡ pos (upTo along (pixel img w) w x (y + 1))) × Row w h (run along img w) ys (s .1) y x) 0 w _
+      (pos 0, ys) (omega arith)
       (ap pos (none-past along (pixel img w) w 0 (y + 1) (omega arith) (omega arith)), q)
       (λ x s _ c t.
       let e = more along x y c b (t .0) in
@@ -119,7 +120,8 @@ module _ (m : Machine) (img : List ℕ) (w h : ℕ) (i : Image img w h) (old : L
       (λ x zs _ c t. row-put w h (run rise img w) ys l t c (more rise x y c b (prev x y c t l)))))
     where
       prev : (x y : ℕ) {ys zs : List ℤ} → x < w → Row w h (run rise img w) ys zs y x → w * h ≤ length ys
-          → cond (ltb 0 y && ltb (usize m (x + 1)) w) (entry-at m zs (less m y 1 * w + (x + 1))) (pos 0) ≡ pos (upTo rise (pixel img w) w (x + 1 + 1) y)
+          → cond (ltb 0 y && ltb (usize m (x + 1)) w) (entry-at m zs (less m y 1 * w + (x + 1))) (pos 0)
+          ≡ pos (upTo rise (pixel img w) w (x + 1 + 1) y)
       prev x y c t l =
           rw (usize-is m (x + 1) (omega (arith, i .wide)))
           (before rise (ltb 0 y && ltb (x + 1) w) x y (less m y 1 * w + (x + 1)) t l

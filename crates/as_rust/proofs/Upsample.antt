@@ -159,21 +159,30 @@ module _ (m : Machine) (src : List ℕ) (w h : ℕ) (small : Bytes src) (whole :
       let Y0 : y0 < h = omega arith in
       let X1 : x1 < w = omega arith in
       let Y1 : y1 < h = omega arith in
-      rw (first-is ix (omega arith), first-is iy (omega arith), next-is ix (omega arith) m w (omega arith), next-is iy (omega arith) m h (omega arith))
+      rw (
+        first-is ix (omega arith),
+        first-is iy (omega arith),
+        next-is ix (omega arith) m w (omega arith),
+        next-is iy (omega arith) m h
+            (omega arith),
+      )
       (kernel-is (byte-at m src (y0 * w + x0)) (byte-at m src (y0 * w + x1)) (byte-at m src (y1 * w + x0)) (byte-at m src (y1 * w + x1))
-      (reads-byte x0 y0 X0 Y0) (reads-byte x1 y0 X1 Y0) (reads-byte x0 y1 X0 Y1) (reads-byte x1 y1 X1 Y1) _ _ (ix % 2) (iy % 2) (mod-lt ix (lit< tt)) (mod-lt iy (lit< tt))
+      (reads-byte x0 y0 X0 Y0) (reads-byte x1 y0 X1 Y0) (reads-byte x0 y1 X0 Y1) (reads-byte x1 y1 X1 Y1) _ _ (ix % 2) (iy % 2) (mod-lt ix (lit< tt))
+      (mod-lt iy (lit< tt))
       (weight-is ix (omega arith)) (weight-is iy (omega arith))
       ∙ (λ i. weighted (ix % 2) (iy % 2) (reads x0 y0 X0 Y0 i) (reads x1 y0 X1 Y0 i) (reads x0 y1 X0 Y1 i) (reads x1 y1 X1 Y1 i)))
 
   -- ---- the whole function
-  pub upsample-as-rust : (out : List ℕ) → length out ≡ 2 * w * (2 * h) → upsample-bilinear-2x m src w h out ≡ filled (2 * w * (2 * h)) (plane (2 * w) (upAt (pixel src w) w h)) out
+  pub upsample-as-rust : (out : List ℕ) → length out ≡ 2 * w * (2 * h) → upsample-bilinear-2x m src w h out
+      ≡ filled (2 * w * (2 * h)) (plane (2 * w) (upAt (pixel src w) w h)) out
   unfolding upsample-bilinear-2x row-kernel
   upsample-as-rust out long = go (eqb w 0 || eqb h 0) refl
     where
       empty : 2 * w * (2 * h) ≡ 0 → out ≡ filled (2 * w * (2 * h)) (plane (2 * w) (upAt (pixel src w) w h)) out
       empty e = rw e (filled-zero _ out)
 
-      go : (t : Bool) → (eqb w 0 || eqb h 0) ≡ t → upsample-bilinear-2x m src w h out ≡ filled (2 * w * (2 * h)) (plane (2 * w) (upAt (pixel src w) w h)) out
+      go : (t : Bool) → (eqb w 0 || eqb h 0) ≡ t → upsample-bilinear-2x m src w h out
+          ≡ filled (2 * w * (2 * h)) (plane (2 * w) (upAt (pixel src w) w h)) out
       go true e = rw e (elim (or-true (eqb w 0) (eqb h 0) e) [
         | inl z ↦ empty (ap (λ (k : ℕ). 2 * k * (2 * h)) (eqb-true w 0 z) ∙ zero-mul (2 * h))
         | inr z ↦ empty (ap (λ (k : ℕ). 2 * w * (2 * k)) (eqb-true h 0 z) ∙ mul-zero (2 * w))

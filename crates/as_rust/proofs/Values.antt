@@ -75,11 +75,13 @@ good-above v (inr b) = inr (go (lt lit-0 v) refl)
   where
     go : (t : Bool) → lt lit-0 v ≡ t → T t
     go true e = tt
-    go false e = absurd (rw (orders .4) at (le-trans least v lit-0 (ends .3) (ends .0) (b .0) (le-of-not-lt v lit-0 (number-of least v (b .0)) (ends .0) e)))
+    go false e =
+        absurd (rw (orders .4) at (le-trans least v lit-0 (ends .3) (ends .0) (b .0) (le-of-not-lt v lit-0 (number-of least v (b .0)) (ends .0) e)))
 
 pub good-usable : (v : Float) → Good v → T (usable v)
 unfolding usable
-good-usable v g = and-i (le lit-0 v) (le v greatest) (good-least v g) (le-trans v most greatest (good-number v g) (ends .2) (good-most v g) (orders .2))
+good-usable v g =
+    and-i (le lit-0 v) (le v greatest) (good-least v g) (le-trans v most greatest (good-number v g) (ends .2) (good-most v g) (orders .2))
 
 good-small : (v : Float) → Good v → Small (2 ^ 24) v
 unfolding ofBits
@@ -103,7 +105,8 @@ indexed z (x ∷ xs) =
     let f : ℕ → Float = λ k. getD (x ∷ xs) k nan in
     let n : suc (length xs) ≡ 1 + length xs = omega arith in
     indexed (greater z x) xs
-    ∙ sym (ap (fold greater z f) n ∙ fold-more greater z f 1 (length xs) ∙ fold-ext greater _ _ _ (length xs) (λ k b. let e : 1 + k ≡ suc k = omega arith in rw e))
+    ∙ sym (ap (fold greater z f) n ∙ fold-more greater z f 1 (length xs) ∙ fold-ext greater _ _ _ (length xs)
+    (λ k b. let e : 1 + k ≡ suc k = omega arith in rw e))
 
 first-value : (v : Float) → (v ≡ lit-0) ⊎ T (lt lit-0 v) → greater neg-infinity v ≡ greater lit-0 v
 unfolding lt ofBits
@@ -113,7 +116,8 @@ first-value (inf true) (inr t) = absurd t
 first-value (inf false) (inr t) = refl
 first-value (fin s k e) (inr t) = rw (T-true (lt lit-0 (fin s k e)) t)
 
-from-below : (f : ℕ → Float) (n : ℕ) → ((k : ℕ) → k < suc n → (f k ≡ lit-0) ⊎ T (lt lit-0 (f k))) → fold greater neg-infinity f (suc n) ≡ fold greater lit-0 f (suc n)
+from-below : (f : ℕ → Float) (n : ℕ) → ((k : ℕ) → k < suc n → (f k ≡ lit-0) ⊎ T (lt lit-0 (f k))) → fold greater neg-infinity f (suc n)
+    ≡ fold greater lit-0 f (suc n)
 unfolding fold
 from-below f zero h = first-value (f 0) (h 0 (omega arith))
 from-below f (suc n) h = ap (λ (v : Float). greater v (f (suc n))) (from-below f n (λ k b. h k (omega arith)))
@@ -228,8 +232,11 @@ module _ (m : Machine) (t z : Float) (a : T (le lit-0 t)) (b : T (le t lit-1)) (
 
       go : (p q : Bool) → le v (relative-floor m t z) ≡ p → lt (t ⊗ z) v ≡ q → p ≡ not q
       go true true e f =
-          absurd (rw (lt-itself v) at (le-lt-trans v (relative-floor m t z) v (rw e tt) (le-lt-trans (relative-floor m t z) (t ⊗ z) v (l .not-over) (rw f tt))))
+          absurd (rw (lt-itself v) at
+          (le-lt-trans v (relative-floor m t z) v (rw e tt) (le-lt-trans (relative-floor m t z) (t ⊗ z) v (l .not-over) (rw f tt))))
       go true false e f = refl
       go false true e f = refl
       go false false e f =
-          absurd (rw e at (le-trans v (t ⊗ z) (relative-floor m t z) (good-number v k) (l .number) (le-of-not-lt v (t ⊗ z) (good-number v k) product-number f) (l .not-under)))
+          absurd (rw e at
+          (le-trans v (t ⊗ z) (relative-floor m t z) (good-number v k) (l .number) (le-of-not-lt v (t ⊗ z) (good-number v k) product-number f)
+          (l .not-under)))
