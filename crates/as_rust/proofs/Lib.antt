@@ -1,5 +1,9 @@
-pub mod Machine
+-- Ours is the Rust's (Crown: open this first), frames run through the text, its literals and its indices; then the steps, in the Rust's order.
+pub mod Crown
+pub mod Worked
 pub mod Literals
+pub mod Indices
+pub mod Machine
 pub mod Tests
 pub mod Loops
 pub mod Exact
@@ -11,8 +15,5 @@ pub mod Map
 pub mod Neighbors
 pub mod Root
 pub mod Saddle
-pub mod Indices
 pub mod Values
 pub mod Detect
-pub mod Crown
-pub mod Worked
