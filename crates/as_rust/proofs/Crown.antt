@@ -198,31 +198,26 @@ module _ (m : Machine) (img : List ℕ) (w h : ℕ) (p : RadonDetectorParams) (s
         (getD-take (W * H) (filled (W * H) (plane W (workOf (pixel img w) w h p)) (b .map .working)) (y * W + x) 0 (pixel-in c d)
         ∙ getD-plane c (W * H) (workOf (pixel img w) w h p) (b .map .working) y 0 (pixel-in c d) (runs .working-room))
 
-    viewed : Viewed seen
-    viewed = record {
-      long = ap length response-is ∙ length-take (W * H) (filled (W * H) (plane W f) (b .map .response))
-          ∙ omega (arith, length-filled (W * H) (plane W f) (b .map .response), runs .response-room);
-      good = λ k c. rw (response-at k c) (good k c);
-      fit = λ k c. rw (response-at k c) (held k);
-      bytes = left .image;
-    }
-      where
-        held : (k : ℕ) → T (fits binary32 (plane W f k))
-        held k =
-            unfold plane in map-fits (factorOf (p .«image_upsample»)) (rayOf (p .«ray_radius»)) (p .«response_blur_radius») (pixel img w) w h (k % W)
-            (k / W)
-
-        good : (k : ℕ) → k < W * H → Good (plane W f k)
-        good k c = unfold plane in
-            map-range (factorOf (p .«image_upsample»)) (rayOf (p .«ray_radius»)) (p .«response_blur_radius») (pixel img w) w h
-            (λ x y. omega (arith, small (y * w + x))) (runs .ray-most) (runs .blur-most) (k % W) (k / W) (column-in W H c) (row-number-in W H c)
-
+    -- a map's values, of the format
     map-held : (x y : ℕ) → x < W → y < H → Held (f x y)
     map-held x y c d = (
       map-range (factorOf (p .«image_upsample»)) (rayOf (p .«ray_radius»)) (p .«response_blur_radius») (pixel img w) w h
           (λ x y. omega (arith, small (y * w + x))) (runs .ray-most) (runs .blur-most) x y c d,
       map-fits (factorOf (p .«image_upsample»)) (rayOf (p .«ray_radius»)) (p .«response_blur_radius») (pixel img w) w h x y,
     )
+
+    flat-held : (k : ℕ) → k < W * H → Held (plane W f k)
+    unfolding plane
+    flat-held k c = map-held (k % W) (k / W) (column-in W H c) (row-number-in W H c)
+
+    viewed : Viewed seen
+    viewed = record {
+      long = ap length response-is ∙ length-take (W * H) (filled (W * H) (plane W f) (b .map .response))
+          ∙ omega (arith, length-filled (W * H) (plane W f) (b .map .response), runs .response-room);
+      good = λ k c. rw (response-at k c) (flat-held k c .0);
+      fit = λ k c. rw (response-at k c) (flat-held k c .1);
+      bytes = left .image;
+    }
 
     module _ (sound : Sound m) where
       corners-are : found-by m p after ≡ each (λ q. numbers-by m p f q ∷ []) (found (pixel img w) w h p)

@@ -15,7 +15,7 @@ use Rattle.grid.specs.Each.{any, any-none, any-append, count, count-none, count
 use Rattle.grid.specs.Rect.{Place, place, before, length-before}
 use Rattle.float.specs.Order.{lt-itself}
 use Rattle.detect.specs.Window.{value, at, same, beaten, positives}
-use Rattle.as_rust.specs.Machine.{Machine, lit-0, is-0, i32, u32, float-at, for, how-many, for-signed}
+use Rattle.as_rust.specs.Machine.{Machine, lit-0, is-0, i32, u32, float-at, for, how-many, for-signed, as-i32, as-usize}
 use Rattle.as_rust.specs.Neighbors.{outside, is-local-max, count-positive-neighbors}
 use Rattle.as_rust.proofs.Machine.{i32-is, i32-minus, i32-cast, u32-is, inside}
 use Rattle.as_rust.proofs.Loops.{for-shift, rect-loop}
@@ -100,16 +100,18 @@ module _ (m : Machine) (s : List Float) (w h r x y : ℕ) (c : Clear w h r x y) 
       inside s ((y - r + j) * w + (x - r + i)) _ nan
       (omega (arith, long, pixel-in {w = w} {h = h} {x = x - r + i} {y = y - r + j} (omega arith) (omega arith)))
 
-  -- a turn's test
-  abbrev beats : ℕ → ℕ → Bool
-  beats a b = lt (f x y) (f a b)
-
-  pub max-as-rust : is-local-max m s w h x y (pos r) (f x y) ≡ not (beaten f r (place x y))
-  unfolding is-local-max beaten
-  max-as-rust =
+  -- 21-31 and 56-66: a loop whose turn is k of three things, whether the offset is the centre's, whether its place is outside, and the value there
+  window-loop : {S : Type 0} (k : Bool → Bool → Float → S → S) (z : S)
+      → for-signed (i32 m (negℤ (pos r))) (pos r) (λ dy t.
+      for-signed (i32 m (negℤ (pos r))) (pos r) (λ dx t.
+      let xx = i32 m (as-i32 x +ℤ dx) in
+      let yy = i32 m (as-i32 y +ℤ dy) in
+      k (is-0 dx && is-0 dy) (outside xx yy (as-i32 w) (as-i32 h)) (float-at m s (as-usize yy * w + as-usize xx)) t) t) z
+      ≡ for (y - r) (y + r + 1) (λ b t. for (x - r) (x + r + 1) (λ a t. k (eqb a x && eqb b y) false (f a b) t) t) z
+  window-loop k z =
       rw (i32-cast x (omega arith), i32-cast y (omega arith), i32-cast w (omega arith), i32-cast h (omega arith))
-      (sym-rect _ (λ b a run. cond run (cond (eqb a x && eqb b y) true (cond (beats a b) false true)) false) true
-      (λ i j run u v.
+      (sym-rect _ (λ b a t. k (eqb a x && eqb b y) false (f a b) t) z
+      (λ i j t u v.
       rw (
         shifted x i r (c .left),
         shifted y j r (c .above),
@@ -119,10 +121,19 @@ module _ (m : Machine) (s : List Float) (w h r x y : ℕ) (c : Clear w h r x y) 
         centre y j r (c .above),
         none-outside w h (x - r + i) (y - r + j) (omega arith) (omega arith),
         reads i j u v,
-      ))
+      )))
+
+  -- a turn's test
+  abbrev beats : ℕ → ℕ → Bool
+  beats a b = lt (f x y) (f a b)
+
+  pub max-as-rust : is-local-max m s w h x y (pos r) (f x y) ≡ not (beaten f r (place x y))
+  unfolding is-local-max beaten
+  max-as-rust =
+      window-loop (λ here out v run. cond run (cond here true (cond out true (cond (lt (f x y) v) false true))) false) true
       ∙ rect-loop (λ l run. run ≡ not (any (λ q. lt (f x y) (at f q)) l)) (x - r) (x + r + 1) (y - r) (y + r + 1)
       (λ b a run. cond run (cond (eqb a x && eqb b y) true (cond (beats a b) false true)) false) true (omega arith) (omega arith) (rw any-none)
-      (λ a b run _ _ _ _ e. rw (e, any-append) (go a b (any (λ q. lt (f x y) (at f q)) (before (x - r) (x + r + 1) (y - r) a b)))))
+      (λ a b run _ _ _ _ e. rw (e, any-append) (go a b (any (λ q. lt (f x y) (at f q)) (before (x - r) (x + r + 1) (y - r) a b))))
     where
       go : (a b : ℕ) (t : Bool) → cond (not t) (cond (eqb a x && eqb b y) true (cond (beats a b) false true)) false
           ≡ not (t || any (λ q. lt (f x y) (at f q)) (place a b ∷ []))
@@ -145,23 +156,11 @@ module _ (m : Machine) (s : List Float) (w h r x y : ℕ) (c : Clear w h r x y) 
   pub count-as-rust : count-positive-neighbors m s w h x y (pos r) ≡ positives f r (place x y)
   unfolding count-positive-neighbors positives
   count-as-rust =
-      rw (i32-cast x (omega arith), i32-cast y (omega arith), i32-cast w (omega arith), i32-cast h (omega arith))
-      (sym-rect _ (λ b a n. cond (eqb a x && eqb b y) n (cond (lt lit-0 (f a b)) (u32 m (n + 1)) n)) 0
-      (λ i j n u v.
-      rw (
-        shifted x i r (c .left),
-        shifted y j r (c .above),
-        i32-is m (x - r + i) (omega arith),
-        i32-is m (y - r + j) (omega arith),
-        centre x i r (c .left),
-        centre y j r (c .above),
-        none-outside w h (x - r + i) (y - r + j) (omega arith) (omega arith),
-        reads i j u v,
-      ))
+      window-loop (λ here out v n. cond here n (cond out n (cond (lt lit-0 v) (u32 m (n + 1)) n))) 0
       ∙ rect-loop (λ l n. n ≡ count counts l) (x - r) (x + r + 1) (y - r) (y + r + 1)
       (λ b a n. cond (eqb a x && eqb b y) n (cond (lt lit-0 (f a b)) (u32 m (n + 1)) n)) 0 (omega arith) (omega arith) (count-none _)
       (λ a b n _ p _ q e. rw (u32-is m (n + 1) (few a b n p q e))
-      (go (before (x - r) (x + r + 1) (y - r) a b) a b n e (eqb a x && eqb b y) (lt lit-0 (f a b)) refl refl)))
+      (go (before (x - r) (x + r + 1) (y - r) a b) a b n e (eqb a x && eqb b y) (lt lit-0 (f a b)) refl refl))
     where
       -- the count is at most the number of places passed
       few : (a b n : ℕ) → a < x + r + 1 → b < y + r + 1 → n ≡ count counts (before (x - r) (x + r + 1) (y - r) a b) → n + 1 < 2 ^ 32

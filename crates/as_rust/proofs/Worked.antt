@@ -45,15 +45,6 @@ document-settings = record {
   «min_cluster_size» = 2;
 }
 
-pub document-run : ran document-frame 7 7 document-settings
-    ≡ corner 0x4040_0000 0x4040_0000 0x481c_4000 ∷ []
-unfolding ours times for-signed chunks put copy-from-slice resize floor rounded clamp max-f32 abs i64 i32 usize u32 less peak-frac
-    fit-peak-frac horiz-px horiz-kernel vert-kernel box-blur-inplace ensure-capacity out-px row-kernel upsample-bilinear-2x sat-row
-    sat-col sat-diag-pos sat-diag-neg s-h s-v s-d1 s-d2 radon-response-at compute-response-row compute-response radon-response-u8
-    is-local-max count-positive-neighbors relative-floor offsets new-saddle accepts process-pixel greatest border-of
-    detect-peaks-from-radon each keep range from rootBits ofBits toBits ofInt toSigned toUnsigned isNan add sub mul div lt le eq
-document-run = refl
-
 -- 5 by 3 at factor 2, blur radius 2, no suppression: six corners
 abbrev small-frame : List ℕ
 small-frame = 60 ∷ 66 ∷ 60 ∷ 53 ∷ 53
@@ -70,20 +61,6 @@ small-settings = record {
   «nms_radius» = 0;
   «min_cluster_size» = 0;
 }
-
-pub small-run : ran small-frame 5 3 small-settings
-    ≡ corner 0x4030_0000 0x3fa0_0000 0x42af_eb85 ∷
-    corner 0x4060_0000 0x3fa0_0000 0x4293_3333 ∷
-    corner 0x3f80_0000 0x3fa0_0000 0x4251_1eb8 ∷
-    corner 0x3fe0_0000 0x3fa0_0000 0x429c_3d71 ∷
-    corner 0x4027_6093 0x3fc0_0000 0x42b7_1eb8 ∷
-    corner 0x4060_0000 0x3fc0_0000 0x4293_3333 ∷ []
-unfolding ours times for-signed chunks put copy-from-slice resize floor rounded clamp max-f32 abs i64 i32 usize u32 less peak-frac
-    fit-peak-frac horiz-px horiz-kernel vert-kernel box-blur-inplace ensure-capacity out-px row-kernel upsample-bilinear-2x sat-row
-    sat-col sat-diag-pos sat-diag-neg s-h s-v s-d1 s-d2 radon-response-at compute-response-row compute-response radon-response-u8
-    is-local-max count-positive-neighbors relative-floor offsets new-saddle accepts process-pixel greatest border-of
-    detect-peaks-from-radon each keep range from rootBits ofBits toBits ofInt toSigned toUnsigned isNan add sub mul div lt le eq
-small-run = refl
 
 -- 14 by 11, ray radius 2: four corners with offsets
 abbrev plain-frame : List ℕ
@@ -110,14 +87,27 @@ plain-settings = record {
   «min_cluster_size» = 1;
 }
 
-pub plain-run : ran plain-frame 14 11 plain-settings
-    ≡ corner 0x40b0_0000 0x409c_4ec5 0x47d8_9480 ∷
-    corner 0x40c0_0000 0x40a3_b13b 0x47d8_9480 ∷
-    corner 0x40e0_0000 0x40a0_0000 0x47d8_9480 ∷
-    corner 0x4100_0000 0x4090_0000 0x47d8_9480 ∷ []
+-- what the compiled Rust prints for them
+pub record Runs : Type 0 where
+  pub document : ran document-frame 7 7 document-settings
+      ≡ corner 0x4040_0000 0x4040_0000 0x481c_4000 ∷ []
+  pub small : ran small-frame 5 3 small-settings
+      ≡ corner 0x4030_0000 0x3fa0_0000 0x42af_eb85 ∷
+      corner 0x4060_0000 0x3fa0_0000 0x4293_3333 ∷
+      corner 0x3f80_0000 0x3fa0_0000 0x4251_1eb8 ∷
+      corner 0x3fe0_0000 0x3fa0_0000 0x429c_3d71 ∷
+      corner 0x4027_6093 0x3fc0_0000 0x42b7_1eb8 ∷
+      corner 0x4060_0000 0x3fc0_0000 0x4293_3333 ∷ []
+  pub plain : ran plain-frame 14 11 plain-settings
+      ≡ corner 0x40b0_0000 0x409c_4ec5 0x47d8_9480 ∷
+      corner 0x40c0_0000 0x40a3_b13b 0x47d8_9480 ∷
+      corner 0x40e0_0000 0x40a0_0000 0x47d8_9480 ∷
+      corner 0x4100_0000 0x4090_0000 0x47d8_9480 ∷ []
+
+pub runs : Runs
 unfolding ours times for-signed chunks put copy-from-slice resize floor rounded clamp max-f32 abs i64 i32 usize u32 less peak-frac
     fit-peak-frac horiz-px horiz-kernel vert-kernel box-blur-inplace ensure-capacity out-px row-kernel upsample-bilinear-2x sat-row
     sat-col sat-diag-pos sat-diag-neg s-h s-v s-d1 s-d2 radon-response-at compute-response-row compute-response radon-response-u8
     is-local-max count-positive-neighbors relative-floor offsets new-saddle accepts process-pixel greatest border-of
     detect-peaks-from-radon each keep range from rootBits ofBits toBits ofInt toSigned toUnsigned isNan add sub mul div lt le eq
-plain-run = refl
+runs = record { document = refl; small = refl; plain = refl }
