@@ -1,11 +1,11 @@
 -- Demand 2 as a theorem: what a call of ours leaves is what the Rust's own text leaves. For every image, settings and buffers that the call accepts,
 -- over any buffers of the Rust's, on every machine that is sound: nothing turns on what a panic or a wrap would give, on which zero a sum starts at
--- or `max` gives, and the list's coordinates in Gaussian mode alone turn on the logarithm. Assumes nothing.
+-- or `max` gives, or on the tables' type, and the list's coordinates in Gaussian mode alone turn on the logarithm. Assumes nothing.
 use mathlib.Core.Path.{_≡_, refl, sym, ap, _∙_}
 use mathlib.Core.Logic.{inl, inr}
-use mathlib.Core.Bool.{true}
+use mathlib.Core.Bool.{true, false}
 use mathlib.Core.List.{List, [], _∷_}
-use Prim.Native.Nat.{ℕ, zero, suc, _+_, _-_, _*_, _/_, _%_, _<_}
+use Prim.Native.Nat.{ℕ, zero, suc, _+_, _-_, _*_, _/_, _%_, _<_, _≤_}
 use native.Mathlib.Nat.{one-mul}
 use native.Mathlib.Omega.{arith}
 use borrow.Author.Tests.{eq-eqb}
@@ -28,7 +28,7 @@ use Rattle.params.specs.declared.RadonDetectorParams.{RadonDetectorParams}
 use Rattle.params.specs.declared.PeakFitMode.the-variants.{Parabolic, Gaussian}
 use Rattle.params.specs.Settings.{defaults, factorOf, rayOf}
 use Rattle.params.specs.Answers.{numberOf}
-use Rattle.params.specs.Accepted.{all-accepted}
+use Rattle.params.specs.Accepted.{map-accepted, all-accepted}
 use Rattle.scalar.specs.Log.{logOf, terms, high, lowest, highest, difference, unitsOf, cutThird}
 use Rattle.scalar.specs.declared.Log.the-variants.{Value}
 use Rattle.scalar.proofs.Facts.{log-inside}
@@ -132,7 +132,7 @@ module _ (m : Machine) (img : List ℕ) (w h : ℕ) (p : RadonDetectorParams) (s
   unfolding map-buffersOf
   map-is-the-rusts b z =
       rw (eq-eqb (numberOf (map-answered img w h p b)) 0 z)
-      (map-as-rust m img w h p b small (runs-of w h p (length img) b refl refl refl z) rust .same)
+      (map-as-rust m img w h p b small (runs-of w h p (length img) b refl refl refl z) (map-accepted w h (length img) p (roomOf b) z .0 .pixels) rust .same)
 
   -- W and H too
   pub map-sizes-are-the-rusts : (b : MapBuffers) → numberOf (map-answered img w h p b) ≡ 0
@@ -151,8 +151,11 @@ module _ (m : Machine) (img : List ℕ) (w h : ℕ) (p : RadonDetectorParams) (s
     abbrev after : RadonBuffers
     after = radon-response-u8 m img w h p rust
 
-    left : Left m img w h p (b .map) small runs rust after
-    left = map-as-rust m img w h p (b .map) small runs rust
+    pixels : sideOf w p * sideOf h p ≤ 8388608
+    pixels = all-accepted w h (length img) p (roomOf (b .map)) z .0 .pixels
+
+    left : Left m img w h p (b .map) small runs pixels rust after
+    left = map-as-rust m img w h p (b .map) small runs pixels rust
 
     abbrev W : ℕ
     W = sideOf w p
@@ -265,6 +268,7 @@ ours = record {
   sqrt = nearest-root;
   start = lit-minus-0;
   first = λ x y. true;
+  narrow = false;
   byte = λ i. 0;
   entry = λ i. pos 0;
   float = λ i. nan;

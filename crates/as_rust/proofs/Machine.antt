@@ -1,14 +1,16 @@
 -- Where nothing leaves its type and no index its slice, the machine's operations are the numbers' own, whatever stands for a panic or a wrap.
 -- Assumes nothing.
 use mathlib.Core.Path.{_≡_, refl}
+use mathlib.Core.Bool.{Bool, true, false, cond}
 use mathlib.Core.List.{List, [], _∷_}
 use Prim.Native.Nat.{ℕ, zero, suc, _-_, _%_, _^_, _≤_, _<_}
 use native.Mathlib.Nat.{not-suc-le-zero, le-of-suc-le-suc}
 use native.Mathlib.Omega.{arith}
 use borrow.Author.Tests.{lt-ltb, le-leb, eq-eqb}
+use lib.Dec.{ltb}
 use lib.ListN.{length, getD, set, take, replicate, length-append, length-take, length-replicate}
 use lib.IntN.{pos, negsuc}
-use Rattle.as_rust.specs.Machine.{Machine, i64, i32, usize, u32, less, as-i32, put, copy-from-slice, resize}
+use Rattle.as_rust.specs.Machine.{Machine, i64, sat, i32, usize, u32, less, as-i32, put, copy-from-slice, resize}
 
 module _ (m : Machine) where
   pub usize-is : (n : ℕ) → n < 2 ^ 64 → usize m n ≡ n
@@ -26,6 +28,14 @@ module _ (m : Machine) where
   pub i64-is : (n : ℕ) → n < 2 ^ 63 → i64 m (pos n) ≡ pos n
   unfolding i64
   i64-is n b = rw (lt-ltb n (2 ^ 63) b)
+
+  pub sat-is : (n : ℕ) → n < 2 ^ 32 → sat m (pos n) ≡ pos n
+  unfolding sat
+  sat-is n b = go (m .narrow)
+    where
+      go : (t : Bool) → cond t (cond (ltb n (2 ^ 32)) (pos n) (m .signed (pos n))) (i64 m (pos n)) ≡ pos n
+      go true = rw (lt-ltb n (2 ^ 32) b)
+      go false = i64-is n (omega arith)
 
   pub i32-is : (n : ℕ) → n < 2 ^ 31 → i32 m (pos n) ≡ pos n
   unfolding i32

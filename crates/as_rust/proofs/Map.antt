@@ -1,13 +1,13 @@
 -- The Rust's map: what `radon_response_u8` leaves in its buffers is document 01's working image, tables, response and scratch. Assumes nothing.
 use mathlib.Core.Path.{_≡_, refl, sym, ap, _∙_}
-use mathlib.Core.Bool.{true, false, cond}
+use mathlib.Core.Bool.{Bool, true, false, not, cond, _||_}
 use mathlib.Core.List.{List, [], _∷_, map}
-use Prim.Native.Nat.{ℕ, zero, suc, _+_, _*_, _/_, _%_, _≤_, _<_, max}
+use Prim.Native.Nat.{ℕ, zero, suc, _+_, _*_, _/_, _%_, _≤_, _<_, max, _-_, _^_}
 use native.Mathlib.Nat.{mul-comm, one-mul, le-of-suc-le-suc, not-suc-le-zero, mul-le-mul, div-add-mod'}
 use native.Mathlib.Omega.{arith}
 use native.Mathlib.Decide.{decLt}
-use borrow.Author.Tests.{le-ltb, lt-ltb, eq-eqb}
-use lib.Dec.{ltb}
+use borrow.Author.Tests.{le-ltb, lt-ltb, le-leb, eq-eqb}
+use lib.Dec.{ltb, leb}
 use lib.ListN.{length, getD, take, List·getD-eq-default}
 use lib.IntN.{ℤ, pos}
 use lib.Ieee.{Float, nan}
@@ -249,7 +249,8 @@ module _ (m : Machine) (img : List ℕ) (W H r blur : ℕ) (work : ℕ → ℕ �
 -- ---- 512-589: the whole function
 
 module _ (m : Machine) (img : List ℕ) (w h : ℕ) (p : RadonDetectorParams) (b : Buffers) (small : Bytes img)
-    (runs : Runs (factorOf (p .«image_upsample»)) (rayOf (p .«ray_radius»)) (p .«response_blur_radius») w h (length img) b) (rust : RadonBuffers) where
+    (runs : Runs (factorOf (p .«image_upsample»)) (rayOf (p .«ray_radius»)) (p .«response_blur_radius») w h (length img) b)
+    (pixels : sideOf w p * sideOf h p ≤ 8388608) (rust : RadonBuffers) where
   abbrev pub F : ℕ
   F = factorOf (p .«image_upsample»)
 
@@ -284,7 +285,7 @@ module _ (m : Machine) (img : List ℕ) (w h : ℕ) (p : RadonDetectorParams) (b
       let blur = p .«response_blur_radius» in
       let t = built m work W H r blur f is i sized sized-is (runs .ray-most) (runs .blur-most) in
       let table = table-same m work W H r blur f is i sized sized-is (runs .ray-most) (runs .blur-most) in
-      rw (usize-is m (w * h) (omega arith), eq-eqb (length img) (w * h) (runs .whole), up, ray, sized-is .width, sized-is .height)
+      rw (usize-is m (w * h) (omega arith), eq-eqb (length img) (w * h) (runs .whole), up, ray, sized-is .width, sized-is .height, narrow (m .narrow))
       (record {
         same = record {
           width = refl;
@@ -302,6 +303,11 @@ module _ (m : Machine) (img : List ℕ) (w h : ℕ) (p : RadonDetectorParams) (b
         image = i;
       })
     where
+      -- 255 · W · H is within u32
+      narrow : (t : Bool) → (not t || leb (255 * (F * w * (F * h))) (2 ^ 32 - 1)) ≡ true
+      narrow true = le-leb (255 * (F * w * (F * h))) (2 ^ 32 - 1) (omega (arith, pixels))
+      narrow false = refl
+
       scratch-taken : (blur : ℕ) → 0 < blur
           → take (F * w * (F * h)) (scratched (rawAt F (rayOf (p .«ray_radius»)) (pixel img w) w h) (F * w) (F * h) blur (b .scratch))
           ≡ filled (F * w * (F * h)) (plane (F * w) (rowMean (responseAt (workAt F (pixel img w) w h) (F * w) (F * h) (rayOf (p .«ray_radius»))) (F * w) blur)) (sized .blur-scratch)

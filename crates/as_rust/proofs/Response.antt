@@ -17,9 +17,9 @@ use Rattle.grid.specs.Loops.{Row}
 use Rattle.grid.specs.Ways.{Way, along, down, fall, rise, pixel, upTo, ray, Inside, endx, endy, lowx, lowy, Reach, none-past, run-at, ray-is, ray-most}
 use Rattle.response.specs.Response.{spread, square, responseAt}
 use Rattle.response.specs.Inner.{response-in, response-out}
-use Rattle.as_rust.specs.Machine.{Machine, lit-0, ltℤ, i64, less, entry-at, put, for, chunks}
+use Rattle.as_rust.specs.Machine.{Machine, lit-0, ltℤ, sat, less, entry-at, put, for, chunks}
 use Rattle.as_rust.specs.Response.{Cumsums, s-h, s-v, s-d1, s-d2, radon-response-at, compute-response-row, compute-response}
-use Rattle.as_rust.proofs.Machine.{usize-is, less-is, i64-is}
+use Rattle.as_rust.proofs.Machine.{usize-is, less-is, sat-is}
 use Rattle.as_rust.proofs.Tests.{and-true, and-false, or-true, or-false}
 use Rattle.as_rust.proofs.Loops.{rows-loop, row-part, fill-loop, chunks-are-rows}
 use Rattle.as_rust.proofs.Tables.{Image, Sums}
@@ -41,12 +41,12 @@ abbrev None : Way → ℕ → ℕ → ℕ → ℕ → Type 0
 None d w r x y = Reach d w (lowx d x r) (lowy d y r) × (min (min (lowx d x r) (lowy d y r)) (w + 1 - lowx d x r) ≡ 0)
 
 module _ (m : Machine) (img : List ℕ) (w h r x y : ℕ) (i : Image img w h) (small : r ≤ 7) (c : Inside w h r x y) where
-  -- a difference of two entries, in i64
+  -- a difference of two entries, in a table
   ray-diff : (d : Way) {t : List ℤ} (s : Sums d img w h t) (b : Bool) (hi j : ℕ) → hi ≡ endy d y r * w + endx d x r
       → (b ≡ true → Before d w h r x y j) → (b ≡ false → None d w r x y)
-      → i64 m (entry-at m t hi -ℤ cond b (entry-at m t j) (pos 0)) ≡ pos (ray d (pixel img w) r x y)
+      → sat m (entry-at m t hi -ℤ cond b (entry-at m t j) (pos 0)) ≡ pos (ray d (pixel img w) r x y)
   ray-diff d {t} s b hi j p u v =
-      rw (p, s .at (endx d x r) (endy d y r) _ (in-x d) (in-y d), lo b u v, minus _ _ _ (ray-is d (pixel img w) w h r x y c)) (i64-is m _ fits)
+      rw (p, s .at (endx d x r) (endy d y r) _ (in-x d) (in-y d), lo b u v, minus _ _ _ (ray-is d (pixel img w) w h r x y c)) (sat-is m _ fits)
     where
       in-x : (d : Way) → endx d x r < w
       in-x along = omega arith
@@ -60,7 +60,7 @@ module _ (m : Machine) (img : List ℕ) (w h r x y : ℕ) (i : Image img w h) (s
       in-y fall = omega arith
       in-y rise = omega arith
 
-      fits : ray d (pixel img w) r x y < 2 ^ 63
+      fits : ray d (pixel img w) r x y < 2 ^ 32
       fits = omega (arith, ray-most d (pixel img w) 255 r x y (i .deep))
 
       lo : (b : Bool) → (b ≡ true → Before d w h r x y j) → (b ≡ false → None d w r x y)
@@ -183,7 +183,7 @@ module _ (m : Machine) (img : List ℕ) (cs : Cumsums) (b : Built img cs) (r : �
           | inr u ↦ (omega arith, omega (arith, ltb-false (x + r + 1) w u))
         ]))
 
-    fits : spread (ray along f r x y) (ray down f r x y) (ray fall f r x y) (ray rise f r x y) < 2 ^ 63
+    fits : spread (ray along f r x y) (ray down f r x y) (ray fall f r x y) (ray rise f r x y) < 2 ^ 32
     fits =
         let most : (d : Way) → ray d f r x y ≤ 255 * (2 * r + 1) = λ d. ray-most d f 255 r x y (b .image .deep) in
         omega (arith, spread-most (255 * (2 * r + 1)) _ _ _ _ (most along) (most down) (most fall) (most rise))
@@ -192,7 +192,7 @@ module _ (m : Machine) (img : List ℕ) (cs : Cumsums) (b : Built img cs) (r : �
     unfolding radon-response-at square
     at-as-rust =
         rw (s-h-is, s-v-is, s-d1-is, s-d2-is)
-        (simp (greater, lesser, spread-is, i64-is m (spread (ray along f r x y) (ray down f r x y) (ray fall f r x y) (ray rise f r x y)) fits)
+        (simp (greater, lesser, spread-is, sat-is m (spread (ray along f r x y) (ray down f r x y) (ray fall f r x y) (ray rise f r x y)) fits)
         (response-in f w h r x y c refl refl refl refl))
 
   -- ---- a row

@@ -1,4 +1,4 @@
--- The Rust's four prefix tables hold the running sums along the four ways, and no sum leaves i64. Assumes nothing.
+-- The Rust's four prefix tables hold the running sums along the four ways, and no sum leaves a table. Assumes nothing.
 use mathlib.Core.Path.{_≡_, refl, sym, ap, _∙_}
 use mathlib.Core.Logic.{inl, inr}
 use mathlib.Core.Bool.{Bool, true, false, cond, _&&_}
@@ -15,9 +15,9 @@ use Rattle.grid.specs.Fill.{filled, filled-intro, length-filled}
 use Rattle.grid.specs.Plane.{plane, getD-plane, pixel-in, row-above, row-of, column-of, column-in, row-number-in}
 use Rattle.grid.specs.Loops.{Row, row-read}
 use Rattle.grid.specs.Ways.{Way, along, down, fall, rise, pixel, upTo, runSum, prevx, prevy, Reach, none-past, run-on, run-at, run-most}
-use Rattle.as_rust.specs.Machine.{Machine, i64, usize, less, byte-at, entry-at, put}
+use Rattle.as_rust.specs.Machine.{Machine, sat, usize, less, byte-at, entry-at, put}
 use Rattle.as_rust.specs.Response.{sat-row, sat-col, sat-diag-pos, sat-diag-neg}
-use Rattle.as_rust.proofs.Machine.{usize-is, less-is, i64-is, inside, put-is}
+use Rattle.as_rust.proofs.Machine.{usize-is, less-is, sat-is, inside, put-is}
 use Rattle.as_rust.proofs.Tests.{and-true, and-false}
 use Rattle.as_rust.proofs.Loops.{for-keeps, rows-loop, row-put}
 
@@ -59,13 +59,13 @@ module _ (m : Machine) (img : List ℕ) (w h : ℕ) (i : Image img w h) (old : L
   plus a b c e = pos-+ℤ-pos a b ∙ ap pos (omega arith)
 
   -- no running sum passes 255 · 8,192
-  fits : (d : Way) (x y : ℕ) → x < w → y < h → runSum d (pixel img w) w x y < 2 ^ 63
+  fits : (d : Way) (x y : ℕ) → x < w → y < h → runSum d (pixel img w) w x y < 2 ^ 32
   fits d x y a b = omega (arith, run-most d (pixel img w) 255 8192 w (x + 1) (y + 1) (i .deep) (omega (arith, i .wide)) (omega (arith, i .high)))
 
-  -- acc is what the line has before x and y; one pixel more, in i64
+  -- acc is what the line has before x and y; one pixel more, in a table
   more : (d : Way) (x y : ℕ) {acc : ℤ} → x < w → y < h → acc ≡ pos (upTo d (pixel img w) w (prevx d x) (prevy d y))
-      → i64 m (acc +ℤ pos (byte-at m img (y * w + x))) ≡ run d img w x y
-  more d x y a b e = rw (e, reads x y a b, plus _ _ _ (run-on d (pixel img w) w x y a refl)) (i64-is m _ (fits d x y a b))
+      → sat m (acc +ℤ pos (byte-at m img (y * w + x))) ≡ run d img w x y
+  more d x y a b e = rw (e, reads x y a b, plus _ _ _ (run-on d (pixel img w) w x y a refl)) (sat-is m _ (fits d x y a b))
 
   pub row-sums : Sums along img w h (sat-row m img w h old)
   unfolding sat-row
@@ -157,7 +157,7 @@ module _ (m : Machine) (img : List ℕ) (w h : ℕ) (i : Image img w h) (old : L
       omega arith
 
   column-more : (x y : ℕ) {acc : ℤ} {t : List ℤ} → x < w → y < h → Column x y acc t
-      → (let sum = i64 m (acc +ℤ pos (byte-at m img (y * w + x))) in Column x (y + 1) sum (put t (y * w + x) sum))
+      → (let sum = sat m (acc +ℤ pos (byte-at m img (y * w + x))) in Column x (y + 1) sum (put t (y * w + x) sum))
   column-more x y {acc} {t} a b c =
       let e = more down x y a b (c .is) in
       let in-table : y * w + x < length t = omega (arith, c .left .long, pixel-in a b) in

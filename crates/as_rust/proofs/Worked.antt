@@ -9,7 +9,7 @@ use Rattle.grid.specs.Rect.{range, from}
 use Rattle.scalar.specs.Root.{rootBits}
 use Rattle.params.specs.declared.RadonDetectorParams.{RadonDetectorParams}
 use Rattle.params.specs.declared.PeakFitMode.the-variants.{Parabolic}
-use Rattle.as_rust.specs.Machine.{floor, rounded, clamp, max-f32, abs, i64, i32, usize, u32, less, put, copy-from-slice, resize, times, for-signed, chunks}
+use Rattle.as_rust.specs.Machine.{sat, floor, rounded, clamp, max-f32, abs, i64, i32, usize, u32, less, put, copy-from-slice, resize, times, for-signed, chunks}
 use Rattle.as_rust.specs.Primitives.{peak-frac, fit-peak-frac, horiz-px, horiz-kernel, vert-kernel, box-blur-inplace}
 use Rattle.as_rust.specs.Response.{s-h, s-v, s-d1, s-d2, new, ensure-capacity, out-px, row-kernel, upsample-bilinear-2x, sat-row, sat-col, sat-diag-pos, sat-diag-neg, radon-response-at, compute-response-row, compute-response, radon-response-u8}
 use Rattle.as_rust.specs.Neighbors.{is-local-max, count-positive-neighbors}
@@ -105,7 +105,7 @@ pub record Runs : Type 0 where
       corner 0x4100_0000 0x4090_0000 0x47d8_9480 ∷ []
 
 pub runs : Runs
-unfolding ours times for-signed chunks put copy-from-slice resize floor rounded clamp max-f32 abs i64 i32 usize u32 less peak-frac
+unfolding ours times for-signed chunks put copy-from-slice resize floor rounded clamp max-f32 abs sat i64 i32 usize u32 less peak-frac
     fit-peak-frac horiz-px horiz-kernel vert-kernel box-blur-inplace ensure-capacity out-px row-kernel upsample-bilinear-2x sat-row
     sat-col sat-diag-pos sat-diag-neg s-h s-v s-d1 s-d2 radon-response-at compute-response-row compute-response radon-response-u8
     is-local-max count-positive-neighbors relative-floor offsets new-saddle accepts process-pixel greatest border-of

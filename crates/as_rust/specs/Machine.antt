@@ -24,6 +24,8 @@ pub record Machine : Type 0 where
   pub start : Float
   -- whether `x.max(y)` is x where neither is greater: of 0.0 and -0.0 it may be either
   pub first : Float → Float → Bool
+  -- whether the crate is built with the feature radon-sat-u32: tables of u32 and not of i64
+  pub narrow : Bool
   -- In place of a panic or a wrap: what a read at an index outside a slice gives, by the index, of bytes, of table entries and of floats; and what
   -- a signed and an unsigned operation gives whose result its type has not, by that result. Since these may be anything, a byte beyond all f32s
   -- and a NaN too, one that reached a result would show. A read whose value is thrown away would not: proofs/Indices has a bound for each.
@@ -166,6 +168,15 @@ i64 m z = cond (has 63 z) z (m .signed z)
 
 unfoldable pub i32 : Machine → ℤ → ℤ
 i32 m z = cond (has 31 z) z (m .signed z)
+
+-- the result of an operation on table entries: u32 or i64, by the feature
+abbrev pub has-u32 : ℤ → Bool
+has-u32 (pos n) = ltb n (2 ^ 32)
+has-u32 (negsuc n) = false
+
+unfoldable pub sat : Machine → ℤ → ℤ
+unfolding i64
+sat m z = cond (m .narrow) (cond (has-u32 z) z (m .signed z)) (i64 m z)
 
 -- the result of a sum or a product on usize, on u32
 unfoldable pub usize : Machine → ℕ → ℕ

@@ -1,18 +1,18 @@
--- radon/response.rs, but for what runs only with the features rayon, simd or radon-sat-u32, serde and `to_response_map`. `debug_assert_eq!` is no
--- part of a release build; what it asks of lengths holds (`Sized` of proofs/Map).
-use mathlib.Core.Bool.{cond, _&&_, _||_}
+-- radon/response.rs, with or without the feature radon-sat-u32, but for what runs only with rayon or simd, serde and `to_response_map`.
+-- `debug_assert_eq!` is no part of a release build; what it asks of lengths holds (`Sized` of proofs/Map).
+use mathlib.Core.Bool.{Bool, not, cond, _&&_, _||_}
 use mathlib.Core.List.{List, [], _∷_, foldl}
-use Prim.Native.Nat.{ℕ, _+_, _*_, min, max}
+use Prim.Native.Nat.{ℕ, _+_, _-_, _*_, _^_, min, max}
 use lib.Dec.{ltb, leb, eqb}
 use lib.ListN.{length}
 use lib.IntN.{ℤ, pos, _+ℤ_, _-ℤ_}
 use lib.Ieee.{Float}
 use Rattle.params.specs.declared.RadonDetectorParams.{RadonDetectorParams}
 use Rattle.params.specs.declared.PeakFitMode.the-variants.{Gaussian}
-use Rattle.as_rust.specs.Machine.{Machine, _⊕_, _⊖_, _⊗_, lit-0, lit-1, lit-half, lit-255, lit-0·28, floor, rounded, clamp, ltℤ, maxℤ, i64, usize, less, as-usize, as-f32, as-f32-signed, to-isize, to-u8, byte-at, entry-at, put, copy-from-slice, resize, for, chunks}
+use Rattle.as_rust.specs.Machine.{Machine, _⊕_, _⊖_, _⊗_, lit-0, lit-1, lit-half, lit-255, lit-0·28, floor, rounded, clamp, ltℤ, maxℤ, sat, usize, less, as-usize, as-f32, as-f32-signed, to-isize, to-u8, byte-at, entry-at, put, copy-from-slice, resize, for, chunks}
 use Rattle.as_rust.specs.Primitives.{box-blur-inplace}
 
--- 38-41: `SatElem` is i64, `SatElem::default()` is 0 and `SatElem::from(b)` the byte b
+-- 38-41: `SatElem` is sat, `SatElem::default()` is 0 and `SatElem::from(b)` the byte b
 
 -- 51-78: `RadonDetectorParams` is the settings' own record, by the same names. 80-92 and 106-116: its `default()`
 abbrev pub default : RadonDetectorParams
@@ -125,7 +125,7 @@ unfoldable pub sat-row : Machine → List ℕ → ℕ → ℕ → List ℤ → L
 sat-row m img w h row-cumsum =
     for 0 h (λ y row-cumsum.
     for {S = ℤ × List ℤ} 0 w (λ x s.
-    let acc = i64 m (s .0 +ℤ pos (byte-at m img (y * w + x))) in
+    let acc = sat m (s .0 +ℤ pos (byte-at m img (y * w + x))) in
     (acc, put (s .1) (y * w + x) acc)) (pos 0, row-cumsum) .1) row-cumsum
 
 -- 234-243
@@ -133,7 +133,7 @@ unfoldable pub sat-col : Machine → List ℕ → ℕ → ℕ → List ℤ → L
 sat-col m img w h col-cumsum =
     for 0 w (λ x col-cumsum.
     for {S = ℤ × List ℤ} 0 h (λ y s.
-    let acc = i64 m (s .0 +ℤ pos (byte-at m img (y * w + x))) in
+    let acc = sat m (s .0 +ℤ pos (byte-at m img (y * w + x))) in
     (acc, put (s .1) (y * w + x) acc)) (pos 0, col-cumsum) .1) col-cumsum
 
 -- 246-258
@@ -142,7 +142,7 @@ sat-diag-pos m img w h diag-pos-cumsum =
     for 0 h (λ y diag-pos-cumsum.
     for 0 w (λ x diag-pos-cumsum.
     let prev = cond (ltb 0 y && ltb 0 x) (entry-at m diag-pos-cumsum (less m y 1 * w + less m x 1)) (pos 0) in
-    put diag-pos-cumsum (y * w + x) (i64 m (prev +ℤ pos (byte-at m img (y * w + x))))) diag-pos-cumsum) diag-pos-cumsum
+    put diag-pos-cumsum (y * w + x) (sat m (prev +ℤ pos (byte-at m img (y * w + x))))) diag-pos-cumsum) diag-pos-cumsum
 
 -- 261-273
 unfoldable pub sat-diag-neg : Machine → List ℕ → ℕ → ℕ → List ℤ → List ℤ
@@ -150,7 +150,7 @@ sat-diag-neg m img w h diag-neg-cumsum =
     for 0 h (λ y diag-neg-cumsum.
     for 0 w (λ x diag-neg-cumsum.
     let prev = cond (ltb 0 y && ltb (usize m (x + 1)) w) (entry-at m diag-neg-cumsum (less m y 1 * w + (x + 1))) (pos 0) in
-    put diag-neg-cumsum (y * w + x) (i64 m (prev +ℤ pos (byte-at m img (y * w + x))))) diag-neg-cumsum) diag-neg-cumsum
+    put diag-neg-cumsum (y * w + x) (sat m (prev +ℤ pos (byte-at m img (y * w + x))))) diag-neg-cumsum) diag-neg-cumsum
 
 -- 275-310: the four tables afterwards
 abbrev pub build-cumsums : Machine → List ℕ → ℕ → ℕ → List ℤ → List ℤ → List ℤ → List ℤ → List ℤ × List ℤ × List ℤ × List ℤ
@@ -176,7 +176,7 @@ s-h m cs r x y =
     let w = cs .w in
     let s-h-hi = entry-at m (cs .row) (y * w + (x + r)) in
     let s-h-lo = cond (ltb r x) (entry-at m (cs .row) (y * w + less m (less m x r) 1)) (pos 0) in
-    i64 m (s-h-hi -ℤ s-h-lo)
+    sat m (s-h-hi -ℤ s-h-lo)
 
 -- 333-339
 unfoldable pub s-v : Machine → Cumsums → ℕ → ℕ → ℕ → ℤ
@@ -184,7 +184,7 @@ s-v m cs r x y =
     let w = cs .w in
     let s-v-hi = entry-at m (cs .col) ((y + r) * w + x) in
     let s-v-lo = cond (ltb r y) (entry-at m (cs .col) (less m (less m y r) 1 * w + x)) (pos 0) in
-    i64 m (s-v-hi -ℤ s-v-lo)
+    sat m (s-v-hi -ℤ s-v-lo)
 
 -- 341-347
 unfoldable pub s-d1 : Machine → Cumsums → ℕ → ℕ → ℕ → ℤ
@@ -192,7 +192,7 @@ s-d1 m cs r x y =
     let w = cs .w in
     let s-d1-hi = entry-at m (cs .diag-pos) ((y + r) * w + (x + r)) in
     let s-d1-lo = cond (ltb r x && ltb r y) (entry-at m (cs .diag-pos) (less m (less m y r) 1 * w + less m (less m x r) 1)) (pos 0) in
-    i64 m (s-d1-hi -ℤ s-d1-lo)
+    sat m (s-d1-hi -ℤ s-d1-lo)
 
 -- 349-355
 unfoldable pub s-d2 : Machine → Cumsums → ℕ → ℕ → ℕ → ℤ
@@ -200,7 +200,7 @@ s-d2 m cs r x y =
     let w = cs .w in
     let s-d2-hi = entry-at m (cs .diag-neg) ((y + r) * w + less m x r) in
     let s-d2-lo = cond (ltb r y && ltb (usize m (x + r + 1)) w) (entry-at m (cs .diag-neg) (less m (less m y r) 1 * w + (x + r + 1))) (pos 0) in
-    i64 m (s-d2-hi -ℤ s-d2-lo)
+    sat m (s-d2-hi -ℤ s-d2-lo)
 
 -- 357-368. 359-366: the loop over `&s[1..]` with its two variables mx and mn is a fold with a pair.
 unfoldable pub radon-response-at : Machine → Cumsums → ℕ → ℕ → ℕ → Float
@@ -208,7 +208,7 @@ radon-response-at m cs r x y =
     let s : ℤ × ℤ =
     foldl (λ s v. (cond (ltℤ (s .0) v) v (s .0), cond (ltℤ v (s .1)) v (s .1))) (s-h m cs r x y, s-h m cs r x y)
     (s-v m cs r x y ∷ s-d1 m cs r x y ∷ s-d2 m cs r x y ∷ []) in
-    let d = sat-to-f32 (i64 m (s .0 -ℤ s .1)) in
+    let d = sat-to-f32 (sat m (s .0 -ℤ s .1)) in
     d ⊗ d
 
 -- 372-400: the row is the part of out from `at` on, n floats. The early return is a branch. 382: `row[..r]`; 392: `take(w - r)` ends with the row;
@@ -237,7 +237,11 @@ compute-response m cs ray-radius out =
 abbrev pub upsample-bilinear-2x-if-needed : Machine → List ℕ → ℕ → ℕ → List ℕ → List ℕ
 upsample-bilinear-2x-if-needed m img w h out = upsample-bilinear-2x m img w h (resize out (usize m (4 * w * h)) 0)
 
--- 512-589: the buffers as the call leaves them. 519-525: where the assert fails the Rust panics, and here the buffers are lost.
+-- 531-543: the assert of the feature radon-sat-u32, in u64 with a checked product
+abbrev pub sums-fit-u32 : Machine → ℕ → ℕ → Bool
+sums-fit-u32 m ww wh = not (m .narrow) || leb (255 * (ww * wh)) (2 ^ 32 - 1)
+
+-- 512-589: the buffers as the call leaves them. 519-525, 531-543: where an assert fails the Rust panics, and here the buffers are lost.
 unfoldable pub radon-response-u8 : Machine → List ℕ → ℕ → ℕ → RadonDetectorParams → RadonBuffers → RadonBuffers
 radon-response-u8 m img w h params buffers =
     cond (eqb (length img) (usize m (w * h)))
@@ -245,7 +249,8 @@ radon-response-u8 m img w h params buffers =
     let b = ensure-capacity m buffers w h up in
     let ww = b .working-w in
     let wh = b .working-h in
-    let working = cond (ltb 1 up) (upsample-bilinear-2x-if-needed m img w h (b .working)) (copy-from-slice (b .working) img) in
+    cond (sums-fit-u32 m ww wh)
+    (let working = cond (ltb 1 up) (upsample-bilinear-2x-if-needed m img w h (b .working)) (copy-from-slice (b .working) img) in
     let tables = build-cumsums m working ww wh (b .row-cumsum) (b .col-cumsum) (b .diag-pos-cumsum) (b .diag-neg-cumsum) in
     let cs : Cumsums = record { row = tables .0; col = tables .1; diag-pos = tables .2; diag-neg = tables .3; w = ww; h = wh } in
     let response = compute-response m cs (ray-radius-clamped params) (b .response) in
@@ -261,6 +266,7 @@ radon-response-u8 m img w h params buffers =
       response = blurred .0;
       blur-scratch = blurred .1;
     })
+    new)
     new
 
 -- 596-602; 583-588: the view that `radon_response_u8` hands back
