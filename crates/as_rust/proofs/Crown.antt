@@ -1,9 +1,11 @@
 -- Demand 2 as a theorem: what a call of ours leaves is what the Rust's own text leaves. For every image, settings and buffers that the call accepts,
 -- over any buffers of the Rust's, on every machine that is sound: nothing turns on what a panic or a wrap would give, on which zero a sum starts at
 -- or `max` gives, or on the tables' type, and the list's coordinates in Gaussian mode alone turn on the logarithm. Assumes nothing.
+use Rattle.params.specs.declared.PeakFitMode.{PeakFitMode}
+use Rattle.as_rust.specs.Primitives.{is-gaussian, peak-frac, fit-peak-frac}
 use mathlib.Core.Path.{_≡_, refl, sym, ap, _∙_}
 use mathlib.Core.Logic.{inl, inr}
-use mathlib.Core.Bool.{true, false}
+use mathlib.Core.Bool.{true, false, cond, _&&_}
 use mathlib.Core.List.{List, [], _∷_}
 use Prim.Native.Nat.{ℕ, zero, suc, _+_, _-_, _*_, _/_, _%_, _<_, _≤_}
 use native.Mathlib.Nat.{one-mul}
@@ -13,7 +15,7 @@ use lib.Dec.{T}
 use lib.ListN.{length, getD, take, length-take}
 use lib.Seq.{getD-take}
 use lib.IntN.{pos}
-use lib.Ieee.{Float, nan, binary32, fits, ofBits, toBits, le}
+use lib.Ieee.{Float, nan, binary32, fits, ofBits, toBits, le, lt}
 use lib.Ieee.Fits.{mul-fits, cond-fits}
 use Rattle.float.specs.Values.{f0}
 use Rattle.float.specs.Order.{lt-itself}
@@ -43,10 +45,10 @@ use Rattle.detect.specs.Corners.{borderOf, corners, numbers, stride}
 use Rattle.detect.proofs.Inside.{corners-same}
 use Rattle.radon.specs.Finder.{Buffers, answered, found, outcomeOf, buffersOf}
 use Rattle.radon.proofs.Cases.{runs-by}
-use Rattle.as_rust.specs.Machine.{Machine, Sound, lit-minus-0}
+use Rattle.as_rust.specs.Machine.{Machine, Sound, lit-minus-0, lit-0}
 use Rattle.as_rust.specs.Response.{default, RadonBuffers, RadonResponseView, view, radon-response-u8}
 use Rattle.as_rust.specs.Detect.{detect-peaks-from-radon}
-use Rattle.as_rust.specs.Runs.{Bytes, SameMap, SameFound, SameList, numbers-by, LogIsOurs, found-by}
+use Rattle.as_rust.specs.Runs.{Bytes, SameMap, SameFound, SameList, numbers-by, LogIsOurs, found-by, SameRun}
 use Rattle.as_rust.proofs.Tests.{T-true}
 use Rattle.as_rust.proofs.Map.{Left, map-as-rust}
 use Rattle.as_rust.proofs.Root.{nearest-root, nearest-roots}
@@ -132,7 +134,8 @@ module _ (m : Machine) (img : List ℕ) (w h : ℕ) (p : RadonDetectorParams) (s
   unfolding map-buffersOf
   map-is-the-rusts b z =
       rw (eq-eqb (numberOf (map-answered img w h p b)) 0 z)
-      (map-as-rust m img w h p b small (runs-of w h p (length img) b refl refl refl z) (map-accepted w h (length img) p (roomOf b) z .0 .pixels) rust .same)
+      (map-as-rust m img w h p b small (runs-of w h p (length img) b refl refl refl z)
+      (map-accepted w h (length img) p (roomOf b) z .0 .pixels) rust .same)
 
   -- W and H too
   pub map-sizes-are-the-rusts : (b : MapBuffers) → numberOf (map-answered img w h p b) ≡ 0
@@ -259,6 +262,42 @@ module _ (m : Machine) (img : List ℕ) (w h : ℕ) (p : RadonDetectorParams) (s
       pub finder-lists-the-rusts-corners-parabolic : p .«peak_fit» ≡ Parabolic
           → SameList (b .list) ((buffersOf img w h p b) .list) (found-by m p (radon-response-u8 m img w h p rust))
       finder-lists-the-rusts-corners-parabolic e = finder-lists-the-rusts-corners (λ g. let n : _≡_ {A = ℕ} 0 1 = cc in absurd (omega arith))
+
+-- ---- nothing turns on what stands for a panic or a wrap, nor on what the Rust's buffers held
+
+fit-same : (m n : Machine) → ((v : Float) → m .ln v ≡ n .ln v) → (a c b : Float) (mode : PeakFitMode) → fit-peak-frac m a c b mode
+    ≡ fit-peak-frac n a c b mode
+unfolding fit-peak-frac
+fit-same m n e a c b mode =
+    let logs = is-gaussian mode && (lt lit-0 a && (lt lit-0 c && lt lit-0 b)) in
+    λ i. peak-frac (cond logs (e a i) a) (cond logs (e c i) c) (cond logs (e b i) b)
+
+module _ (m n : Machine) (img : List ℕ) (w h : ℕ) (p : RadonDetectorParams) (small : Bytes img) (a c : RadonBuffers) (b : Buffers) (z : numberOf (answered img w h p b) ≡ 0) where
+  pub rust-runs-alike : SameRun (p .«response_blur_radius») (radon-response-u8 m img w h p a) (radon-response-u8 n img w h p c)
+  rust-runs-alike =
+      let x = finder-leaves-the-rusts-map m img w h p small a b z in
+      let y = finder-leaves-the-rusts-map n img w h p small c b z in
+      record {
+        width = x .width ∙ sym (y .width);
+        height = x .height ∙ sym (y .height);
+        working = sym (x .working) ∙ y .working;
+        row = sym (x .row) ∙ y .row;
+        col = sym (x .col) ∙ y .col;
+        falling = sym (x .falling) ∙ y .falling;
+        rising = sym (x .rising) ∙ y .rising;
+        response = sym (x .response) ∙ y .response;
+        scratch = λ some. sym (x .scratch some) ∙ y .scratch some;
+      }
+
+  pub rust-lists-alike : Sound m → Sound n → ((v : Float) → m .ln v ≡ n .ln v) → found-by m p (radon-response-u8 m img w h p a)
+      ≡ found-by n p (radon-response-u8 n img w h p c)
+  rust-lists-alike s t e =
+      finder-finds-the-rusts-corners m img w h p small a b z s .corners
+      ∙ each-ext _ _ (λ q. ap (λ (l : List Float). l ∷ []) (at q)) (found (pixel img w) w h p)
+      ∙ sym (finder-finds-the-rusts-corners n img w h p small c b z t .corners)
+    where
+      at : (q : Place) → numbers-by m p (mapOf (pixel img w) w h p) q ≡ numbers-by n p (mapOf (pixel img w) w h p) q
+      at q = unfold numbers-by in simp (fit-same m n e)
 
 -- ---- there is such a machine: with our root and our logarithm, and anything in place of a panic
 

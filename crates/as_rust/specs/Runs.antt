@@ -69,3 +69,15 @@ LogIsOurs m img w h p = (x y : ℕ) → x < sideOf w p → y < sideOf h p → T 
 -- the Rust's list from the buffers that its map's function left
 abbrev pub found-by : Machine → RadonDetectorParams → RadonBuffers → List (List Float)
 found-by m p rust = detect-peaks-from-radon m (view rust) p
+
+-- two runs of the Rust that leave the same, the scratch where there is a blur
+pub record SameRun (blur : ℕ) (a b : RadonBuffers) : Type 0 where
+  pub width : a .working-w ≡ b .working-w
+  pub height : a .working-h ≡ b .working-h
+  pub working : a .working ≡ b .working
+  pub row : a .row-cumsum ≡ b .row-cumsum
+  pub col : a .col-cumsum ≡ b .col-cumsum
+  pub falling : a .diag-pos-cumsum ≡ b .diag-pos-cumsum
+  pub rising : a .diag-neg-cumsum ≡ b .diag-neg-cumsum
+  pub response : a .response ≡ b .response
+  pub scratch : 0 < blur → a .blur-scratch ≡ b .blur-scratch
