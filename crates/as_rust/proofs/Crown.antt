@@ -1,8 +1,6 @@
 -- Demand 2 as a theorem: what a call of ours leaves is what the Rust's own text leaves. For every image, settings and buffers that the call accepts,
 -- over any buffers of the Rust's, on every machine that is sound: nothing turns on what a panic or a wrap would give, on which zero a sum starts at
 -- or `max` gives, or on the tables' type, and the list's coordinates in Gaussian mode alone turn on the logarithm. Assumes nothing.
-use Rattle.params.specs.declared.PeakFitMode.{PeakFitMode}
-use Rattle.as_rust.specs.Primitives.{is-gaussian, peak-frac, fit-peak-frac}
 use mathlib.Core.Path.{_≡_, refl, sym, ap, _∙_}
 use mathlib.Core.Logic.{inl, inr}
 use mathlib.Core.Bool.{true, false, cond, _&&_}
@@ -27,6 +25,7 @@ use Rattle.grid.specs.Rect.{Place}
 use Rattle.grid.specs.Over.{over, written}
 use Rattle.grid.specs.All.{all-map, all-keep, all-rect, InRect, each-same}
 use Rattle.params.specs.declared.RadonDetectorParams.{RadonDetectorParams}
+use Rattle.params.specs.declared.PeakFitMode.{PeakFitMode}
 use Rattle.params.specs.declared.PeakFitMode.the-variants.{Parabolic, Gaussian}
 use Rattle.params.specs.Settings.{defaults, factorOf, rayOf}
 use Rattle.params.specs.Answers.{numberOf}
@@ -46,6 +45,7 @@ use Rattle.detect.proofs.Inside.{corners-same}
 use Rattle.radon.specs.Finder.{Buffers, answered, found, outcomeOf, buffersOf}
 use Rattle.radon.proofs.Cases.{runs-by}
 use Rattle.as_rust.specs.Machine.{Machine, Sound, lit-minus-0, lit-0}
+use Rattle.as_rust.specs.Primitives.{is-gaussian, peak-frac, fit-peak-frac}
 use Rattle.as_rust.specs.Response.{default, RadonBuffers, RadonResponseView, view, radon-response-u8}
 use Rattle.as_rust.specs.Detect.{detect-peaks-from-radon}
 use Rattle.as_rust.specs.Runs.{Bytes, SameMap, SameFound, SameList, numbers-by, LogIsOurs, found-by, SameRun}
