@@ -28,7 +28,8 @@ pub record Machine : Type 0 where
   pub narrow : Bool
   -- In place of a panic or a wrap: what a read at an index outside a slice gives, by the index, of bytes, of table entries and of floats; and what
   -- a signed and an unsigned operation gives whose result its type has not, by that result. Since these may be anything, a byte beyond all f32s
-  -- and a NaN too, one that reached a result would show. A read whose value is thrown away would not: proofs/Indices has a bound for each.
+  -- and a NaN too, one that reached a result would show. (A read whose value is thrown away would not; the text has none, and proofs/Indices has
+  -- a bound for each read.)
   pub byte : ℕ → ℕ
   pub entry : ℕ → ℤ
   pub float : ℕ → Float
