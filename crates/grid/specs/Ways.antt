@@ -283,7 +283,7 @@ module _ (d : Way) (f : ℕ → ℕ → ℕ) (w h r x y : ℕ) (m : Inside w h r
           (λ i. f (p i) (q i)))
       go rise = fold-ext _+_ 0 _ _ (2 * r + 1) (λ j b. ap (λ (u : ℕ). f u (y + r - j)) (omega arith))
 
-  ray-is : upTo d f w (endx d x r + 1) (endy d y r + 1) ≡ ray d f r x y + upTo d f w (lowx d x r) (lowy d y r)
+  pub ray-is : upTo d f w (endx d x r + 1) (endy d y r + 1) ≡ ray d f r x y + upTo d f w (lowx d x r) (lowy d y r)
   ray-is =
       let p : endx d x r + 1 - 1 ≡ endx d x r = omega arith in
       let q : endy d y r + 1 - 1 ≡ endy d y r = omega arith in

@@ -1,0 +1,229 @@
+-- The Rust's saddle test, over an iterator of signed offsets, with any nearest root and sums from either zero, is document 01's. Assumes nothing.
+use mathlib.Core.Path.{_≡_, refl, sym, ap, _∙_}
+use mathlib.Core.Logic.{_⊎_, inl, inr}
+use mathlib.Core.Bool.{Bool, true, false, cond, _&&_}
+use mathlib.Core.List.{List, [], _∷_, foldl}
+use Prim.Native.Nat.{ℕ, zero, suc, _+_, _-_, _*_, _%_, _^_, _≤_, _<_}
+use native.Mathlib.Nat.{one-mul, mul-le-mul}
+use native.Mathlib.Omega.{arith}
+use borrow.Author.Tests.{leb-true, leb-false}
+use lib.Dec.{T, leb}
+use lib.ListN.{length}
+use lib.IntN.{ℤ, pos, negsuc}
+use lib.Ieee.{Float, nan, inf, fin, binary32, minus, ofInt, ofBits, toBits, fits, add, mul, le}
+use lib.Ieee.Fits.{add-fits}
+use Rattle.float.specs.Computed.{every, every-at, alike, alike-same}
+use Rattle.grid.specs.Plane.{pixel-in}
+use Rattle.grid.specs.Each.{each, keep, length-each}
+use Rattle.grid.specs.Rect.{Place, rect, range, from, line}
+use Rattle.grid.specs.All.{all, all-map, all-keep, all-rect, InRect, foldl-same}
+use Rattle.grid.specs.Ways.{pixel}
+use Rattle.detect.specs.Saddle.{noSums, noMoments, side, disk, inDisk, offset, around, overDisk, momentAdded, momentsOf, meanOf, normAdded, normsOf, saddleOf, added, sumsOf, magnitude, squares, saddleAt, verdict}
+use Rattle.detect.specs.declared.saddle.Saddle.the-variants.{Yes, Flat, Curved}
+use Rattle.detect.specs.Corners.{isKept, bySaddle}
+use Rattle.detect.proofs.Rooted.{nearestRoot, spreadSquared, trace, never-outside, by-root}
+use Rattle.as_rust.specs.Machine.{Machine, Sound, _⊕_, _⊖_, _⊗_, _⊘_, lit-0, lit-minus-0, lit-1, lit-0·2, abs, i64, as-usize, as-f32, as-f32-signed, wrapping-add-signed, byte-at}
+use Rattle.as_rust.specs.Detect.{offsets, disk as disk-of, new, accepts}
+use Rattle.as_rust.proofs.Machine.{usize-is, inside}
+use Rattle.as_rust.proofs.Root.{root-is}
+
+-- ---- 223-231
+
+-- the offset of a place of the square
+abbrev signed : ℕ → Place → ℤ × ℤ
+signed k p = (minus (p .x) k, minus (p .y) k)
+
+-- the iterator gives document 01's disk in its order, and nothing on the way leaves isize: computed for each radius
+offsets-are : (m : Machine) (k : ℕ) → k ≤ 7 → offsets m k ≡ each (λ p. signed k p ∷ []) (disk k)
+unfolding offsets i64 disk each keep range from line rect inDisk
+offsets-are m zero l = refl
+offsets-are m (suc zero) l = refl
+offsets-are m (suc (suc zero)) l = refl
+offsets-are m (suc (suc (suc zero))) l = refl
+offsets-are m (suc (suc (suc (suc zero)))) l = refl
+offsets-are m (suc (suc (suc (suc (suc zero))))) l = refl
+offsets-are m (suc (suc (suc (suc (suc (suc zero)))))) l = refl
+offsets-are m (suc (suc (suc (suc (suc (suc (suc zero))))))) l = refl
+offsets-are m (suc (suc (suc (suc (suc (suc (suc (suc k)))))))) l = absurd (omega arith)
+
+-- ---- folds
+
+module _ {A B C : Type 0} where
+  -- over entries that are made of others
+  made : (g : A → C → A) (h : B → C) (z : A) (l : List B) → foldl g z (each (λ b. h b ∷ []) l) ≡ foldl (λ s b. g s (h b)) z l
+  unfolding each
+  made g h z [] = refl
+  made g h z (b ∷ l) = made g h (g z (h b)) l
+
+  -- a part of the state
+  part : (z : A) (p : A → B) (g : A → C → A) (k : B → C → B) (l : List C) → ((s : A) (c : C) → p (g s c) ≡ k (p s) c) → p (foldl g z l)
+      ≡ foldl k (p z) l
+  part z p g k [] e = refl
+  part z p g k (c ∷ l) e = part (g z c) p g k l e ∙ ap (λ (s : B). foldl k s l) (e z c)
+
+-- ---- 201-218
+
+abbrev Three : Type 0
+Three = Float × Float × Float
+
+abbrev Two : Type 0
+Two = Float × Float
+
+abbrev momentStep : Float → Two → Float
+momentStep s o = s ⊕ (o .0 ⊗ o .0 ⊕ o .1 ⊗ o .1)
+
+abbrev normStep : Float → Three → Two → Three
+normStep mean s o =
+    let x = o .0 in
+    let y = o .1 in
+    let u = x ⊗ x ⊕ y ⊗ y ⊖ mean in
+    let v = x ⊗ x ⊖ y ⊗ y in
+    (s .0 ⊕ u ⊗ u, s .1 ⊕ v ⊗ v, s .2 ⊕ x ⊗ x ⊗ y ⊗ y)
+
+-- the offset of a place, in f32
+abbrev floats : ℕ → Place → Two
+floats k p = (offset k (p .x), offset k (p .y))
+
+-- `sum()` from -0.0 is `sum()` from 0.0: computed for each radius
+from-minus : ℕ → Bool
+from-minus k = alike (foldl (λ s p. momentStep s (floats k p)) lit-minus-0 (disk k)) (foldl (λ s p. momentStep s (floats k p)) lit-0 (disk k))
+
+either-start : T (every from-minus 8)
+unfolding every from-minus alike fits ofBits toBits add mul ofInt offset disk each keep range from line rect inDisk
+either-start = tt
+
+module _ (m : Machine) (k : ℕ) (l : k ≤ 7) where
+  disk-is : disk-of m k ≡ each (λ p. floats k p ∷ []) (disk k)
+  unfolding offset each
+  disk-is = ap (each (λ o. (as-f32-signed (o .0), as-f32-signed (o .1)) ∷ [])) (offsets-are m k l) ∙ twice (disk k)
+    where
+      twice : (ps : List Place) → each {B = Two} (λ o. (as-f32-signed (o .0), as-f32-signed (o .1)) ∷ []) (each (λ p. signed k p ∷ []) ps)
+          ≡ each (λ p. floats k p ∷ []) ps
+      twice [] = refl
+      twice (p ∷ ps) = ap (λ (r : List Two). floats k p ∷ r) (twice ps)
+
+  count-is : length (disk-of m k) ≡ length (disk k)
+  count-is = ap length disk-is ∙ length-each 1 (λ p. floats k p ∷ []) (λ p. refl) (disk k) ∙ one-mul _
+
+  sum-is : (start : Float) → (start ≡ lit-0) ⊎ (start ≡ lit-minus-0) → foldl momentStep start (disk-of m k) ≡ momentsOf k .r2
+  unfolding momentsOf overDisk momentAdded from-minus
+  sum-is start e =
+      ap (foldl momentStep start) disk-is ∙ made momentStep (floats k) start (disk k) ∙ begin e ∙ sym
+      (part noMoments (λ s. s .r2) _ _ (disk k) (λ s p. refl))
+    where
+      begin : (start ≡ lit-0) ⊎ (start ≡ lit-minus-0) → foldl (λ s p. momentStep s (floats k p)) start (disk k)
+          ≡ foldl (λ s p. momentStep s (floats k p)) lit-0 (disk k)
+      begin (inl q) = rw q
+      begin (inr q) = rw q (alike-same _ _ (every-at from-minus 8 either-start k (omega arith)))
+
+  norms-are : (mean : Float) → foldl {B = Three} (normStep mean) (lit-0, lit-0, lit-0) (disk-of m k)
+      ≡ (normsOf mean k .u, normsOf mean k .v, normsOf mean k .xy)
+  unfolding normsOf overDisk normAdded
+  norms-are mean =
+      ap (foldl {B = Three} (normStep mean) (lit-0, lit-0, lit-0)) disk-is
+      ∙ made {A = Three} (normStep mean) (floats k) (lit-0, lit-0, lit-0) (disk k)
+      ∙ sym (part noSums (λ s. (s .u, s .v, s .xy)) _ _ (disk k) (λ s p. refl))
+
+  mean-is : Sound m → foldl momentStep (m .start) (disk-of m k) ⊘ as-f32 (length (disk-of m k)) ≡ meanOf k
+  unfolding meanOf
+  mean-is sound = rw (count-is, sum-is (m .start) (sound .starts))
+
+  pub new-is : Sound m → new m k
+      ≡ record { k = k; mean-r2 = saddleOf k .«mean_r2»; inv-norms = (saddleOf k .«inv_u», saddleOf k .«inv_v», saddleOf k .«inv_xy») }
+  unfolding new saddleOf
+  new-is sound = rw (mean-is sound, norms-are (meanOf k))
+
+-- ---- 235-263
+
+-- `wrapping_add_signed` does not wrap
+placed : (x i k : ℕ) → k ≤ x → x ≤ 8192 → i < 2 * k + 1 → k ≤ 7 → wrapping-add-signed x (minus i k) ≡ x + i - k
+placed x i k b c d l = go (leb k i) refl
+  where
+    go : (t : Bool) → leb k i ≡ t → (x + as-usize (cond t (pos (i - k)) (negsuc (k - suc i)))) % 2 ^ 64 ≡ x + i - k
+    go true e = let n : k ≤ i = leb-true k i e in omega arith
+    go false e = let n : i < k = leb-false k i e in omega arith
+
+abs-is : (x : Float) → abs x ≡ magnitude x
+unfolding abs magnitude
+abs-is nan = refl
+abs-is (inf s) = refl
+abs-is (fin s k e) = refl
+
+-- the disk of radius k about x and y lies in an image within the limits
+pub record Within (image : List ℕ) (w h k x y : ℕ) : Type 0 where
+  pub whole : length image ≡ w * h
+  pub deep : (i j : ℕ) → pixel image w i j ≤ 4095
+  pub left : k ≤ x
+  pub right : x + k < w
+  pub above : k ≤ y
+  pub below : y + k < h
+  pub wide : w ≤ 8192
+  pub high : h ≤ 8192
+
+module _ (m : Machine) (sound : Sound m) (image : List ℕ) (w h k x y : ℕ) (least : 1 ≤ k) (most : k ≤ 7) (c : Within image w h k x y) where
+  abbrev sumStep : Three → ℤ × ℤ → Three
+  sumStep s o =
+      let px = wrapping-add-signed x (o .0) in
+      let py = wrapping-add-signed y (o .1) in
+      let i = as-f32 (byte-at m image (py * w + px)) in
+      let dx = as-f32-signed (o .0) in
+      let dy = as-f32-signed (o .1) in
+      (s .0 ⊕ (dx ⊗ dx ⊕ dy ⊗ dy ⊖ saddleOf k .«mean_r2») ⊗ i, s .1 ⊕ (dx ⊗ dx ⊖ dy ⊗ dy) ⊗ i, s .2 ⊕ dx ⊗ dy ⊗ i)
+
+  abbrev ourStep : Three → Place → Three
+  ourStep s p =
+      let i = around k (pixel image w) x y p in
+      let dx = offset k (p .x) in
+      let dy = offset k (p .y) in
+      (s .0 ⊕ (dx ⊗ dx ⊕ dy ⊗ dy ⊖ saddleOf k .«mean_r2») ⊗ i, s .1 ⊕ (dx ⊗ dx ⊖ dy ⊗ dy) ⊗ i, s .2 ⊕ dx ⊗ dy ⊗ i)
+
+  -- each read is inside the image
+  reads : (p : Place) → InRect 0 (side k) 0 (side k) p → (s : Three) → sumStep s (signed k p) ≡ ourStep s p
+  unfolding offset
+  reads p b s =
+      let i : p .x < 2 * k + 1 = omega arith in
+      let j : p .y < 2 * k + 1 = omega arith in
+      let a : x + p .x - k < w = omega arith in
+      let d : y + p .y - k < h = omega arith in
+      rw (
+        placed x (p .x) k (c .left) (omega arith) i most,
+        placed y (p .y) k (c .above) (omega arith) j most,
+        inside image ((y + p .y - k) * w + (x + p .x - k)) (m .byte ((y + p .y - k) * w + (x + p .x - k))) 0 (omega (arith, c .whole, pixel-in a d)),
+      )
+
+  square : all (InRect 0 (side k) 0 (side k)) (disk k)
+  unfolding disk
+  square = all-keep (InRect 0 (side k) 0 (side k)) (inDisk k) (rect 0 (side k) 0 (side k)) (all-rect 0 (side k) 0 (side k))
+
+  sums-are : foldl {B = Three} sumStep (lit-0, lit-0, lit-0) (offsets m k)
+      ≡ (let s = sumsOf (saddleOf k) k (pixel image w) x y in (s .u, s .v, s .xy))
+  unfolding sumsOf overDisk added
+  sums-are =
+      ap (foldl {B = Three} sumStep (lit-0, lit-0, lit-0)) (offsets-are m k most)
+      ∙ made {A = Three} sumStep (signed k) (lit-0, lit-0, lit-0) (disk k)
+      ∙ foldl-same {B = Three} (λ s p. sumStep s (signed k p)) ourStep (lit-0, lit-0, lit-0) (disk k)
+      (all-map (InRect 0 (side k) 0 (side k)) (λ p. (s : Three) → sumStep s (signed k p) ≡ ourStep s p) reads (disk k) square)
+      ∙ sym (part noSums (λ s. (s .u, s .v, s .xy)) _ ourStep (disk k) (λ s p. refl))
+
+  -- the machine's root is document 01's
+  spread-is : m .sqrt (spreadSquared (saddleOf k) (sumsOf (saddleOf k) k (pixel image w) x y))
+      ≡ nearestRoot (spreadSquared (saddleOf k) (sumsOf (saddleOf k) k (pixel image w) x y))
+  spread-is =
+      root-is (m .sqrt) (sound .roots) _ _ (unfold squares in add-fits binary32 _ _) (never-outside k (pixel image w) x y least most (c .deep))
+
+  pub accepts-as-rust : accepts m (new m k) image w x y ≡ isKept (bySaddle (saddleAt (saddleOf k) k (pixel image w) x y))
+  unfolding accepts
+  accepts-as-rust =
+      let t = saddleOf k in
+      let s = sumsOf t k (pixel image w) x y in
+      let root = nearestRoot (spreadSquared t s) in
+      rw (new-is m k most sound, sums-are)
+      (rw (by-root k (pixel image w) x y least most (c .deep))
+      (unfold squares verdict in
+      rw (spread-is, abs-is, usize-is m (k * k) (omega (arith, mul-le-mul most most)))
+      (go (le lit-1 (root ⊗ as-f32 (k * k))) (le (magnitude (trace t s) ⊗ (lit-1 ⊕ lit-0·2)) (root ⊗ (lit-1 ⊖ lit-0·2))))))
+    where
+      go : (a b : Bool) → (a && b) ≡ isKept (bySaddle (cond a (cond b Yes Curved) Flat))
+      go true true = refl
+      go true false = refl
+      go false b = refl
