@@ -5,17 +5,14 @@ use mathlib.Core.Path.{_≡_, refl, sym, ap, _∙_}
 use mathlib.Core.Logic.{inl, inr}
 use mathlib.Core.Bool.{true, false, cond, _&&_}
 use mathlib.Core.List.{List, [], _∷_}
-use Prim.Native.Nat.{ℕ, zero, suc, _+_, _-_, _*_, _/_, _%_, _<_, _≤_}
+use Prim.Native.Nat.{ℕ, _+_, _-_, _*_, _/_, _%_, _<_, _≤_}
 use native.Mathlib.Nat.{one-mul}
 use native.Mathlib.Omega.{arith}
 use borrow.Author.Tests.{eq-eqb}
-use lib.Dec.{T}
 use lib.ListN.{length, getD, take, length-take}
 use lib.Seq.{getD-take}
 use lib.IntN.{pos}
-use lib.Ieee.{Float, nan, binary32, fits, ofBits, toBits, le, lt}
-use lib.Ieee.Fits.{mul-fits, cond-fits}
-use Rattle.float.specs.Values.{f0}
+use lib.Ieee.{Float, nan, binary32, ofBits, toBits, le, lt}
 use Rattle.float.specs.Order.{lt-itself}
 use Rattle.grid.specs.Fill.{filled, getD-filled, length-filled}
 use Rattle.grid.specs.Plane.{plane, getD-plane, pixel-in, column-in, row-number-in}
@@ -23,7 +20,7 @@ use Rattle.grid.specs.Ways.{pixel}
 use Rattle.grid.specs.Each.{each, each-each, each-ext, each-one, take-each, length-each}
 use Rattle.grid.specs.Rect.{Place}
 use Rattle.grid.specs.Over.{over, written}
-use Rattle.grid.specs.All.{all-map, all-keep, all-rect, InRect, each-same}
+use Rattle.grid.specs.All.{all-map, each-same}
 use Rattle.params.specs.declared.RadonDetectorParams.{RadonDetectorParams}
 use Rattle.params.specs.declared.PeakFitMode.{PeakFitMode}
 use Rattle.params.specs.declared.PeakFitMode.the-variants.{Parabolic, Gaussian}
@@ -33,15 +30,14 @@ use Rattle.params.specs.Accepted.{map-accepted, all-accepted}
 use Rattle.scalar.specs.Log.{logOf, terms, high, lowest, highest, difference, unitsOf, cutThird}
 use Rattle.scalar.specs.declared.Log.the-variants.{Value}
 use Rattle.scalar.proofs.Facts.{log-inside}
-use Rattle.response.specs.Upsample.{workAt}
-use Rattle.response.specs.Response.{square, raySpread, within, responseAt}
-use Rattle.response.specs.Blur.{columnMean, blurAt}
 use Rattle.response.specs.Runs.{Runs, runs-of}
-use Rattle.response.specs.Map.{Buffers as MapBuffers, answered as map-answered, buffersOf as map-buffersOf, mappedOf, mappedBy, rawAt, mapAt, workOf, mapOf, sideOf, roomOf}
+use Rattle.response.specs.Map.{Buffers as MapBuffers, answered as map-answered, buffersOf as map-buffersOf, mappedOf, mappedBy, workOf, mapOf, sideOf, roomOf}
 use Rattle.response.specs.MapFacts.{map-range}
+use Rattle.response.proofs.Places.{map-fits}
 use Rattle.detect.specs.Window.{value}
-use Rattle.detect.specs.Corners.{borderOf, corners, numbers, stride}
+use Rattle.detect.specs.Corners.{corners, numbers, stride}
 use Rattle.detect.proofs.Inside.{corners-same}
+use Rattle.detect.proofs.Places.{Inner, corners-inner}
 use Rattle.radon.specs.Finder.{Buffers, answered, found, outcomeOf, buffersOf}
 use Rattle.radon.proofs.Cases.{runs-by}
 use Rattle.as_rust.specs.Machine.{Machine, Sound, lit-minus-0, lit-0}
@@ -60,47 +56,23 @@ use Rattle.as_rust.proofs.Detect.{listed, Held, Viewed, numbers-as-rust
 pub default-is-ours : default ≡ defaults
 default-is-ours = refl
 
--- ---- a map's values are values of the format
-
-f0-fits : T (fits binary32 f0)
-unfolding fits ofBits
-f0-fits = tt
-
-blur-fits : (g : ℕ → ℕ → Float) (w h r x y : ℕ) → T (fits binary32 (g x y)) → T (fits binary32 (blurAt g w h r x y))
-unfolding blurAt columnMean
-blur-fits g w h zero x y t = t
-blur-fits g w h (suc r) x y t = mul-fits binary32 _ _
-
-raw-fits : (f : ℕ → ℕ → ℕ) (w h r x y : ℕ) → T (fits binary32 (responseAt f w h r x y))
-unfolding responseAt square
-raw-fits f w h r x y = cond-fits binary32 (within w h r x y) (square (raySpread f r x y)) f0 (mul-fits binary32 _ _) f0-fits
-
-map-fits : (factor ray blur : ℕ) (f : ℕ → ℕ → ℕ) (w h x y : ℕ) → T (fits binary32 (mapAt factor ray blur f w h x y))
-unfolding mapAt rawAt
-map-fits factor ray blur f w h x y =
-    blur-fits (rawAt factor ray f w h) (factor * w) (factor * h) blur x y (raw-fits (workAt factor f w h) (factor * w) (factor * h) ray x y)
-
 -- ---- two maps and two images that agree inside have the same list
 
 module _ (m : Machine) (p : RadonDetectorParams) (w h : ℕ) where
-  abbrev Candidate : Place → Type 0
-  Candidate q = InRect (borderOf p) (w - borderOf p) (borderOf p) (h - borderOf p) q
-
   -- numbers that agree at every candidate
-  numbers-same : (a b : Place → List Float) (f : ℕ → ℕ → Float) (g : ℕ → ℕ → ℕ) → ((q : Place) → Candidate q → a q ≡ b q)
+  numbers-same : (a b : Place → List Float) (f : ℕ → ℕ → Float) (g : ℕ → ℕ → ℕ) → ((q : Place) → Inner p w h q → a q ≡ b q)
       → each (λ q. a q ∷ []) (corners p w h f g) ≡ each (λ q. b q ∷ []) (corners p w h f g)
-  unfolding corners
   numbers-same a b f g e =
       each-same _ _ (corners p w h f g)
-      (all-map Candidate (λ q. a q ∷ [] ≡ b q ∷ []) (λ q c. ap (λ (n : List Float). n ∷ []) (e q c)) (corners p w h f g)
-      (all-keep Candidate _ _ (all-rect (borderOf p) (w - borderOf p) (borderOf p) (h - borderOf p))))
+      (all-map (Inner p w h) (λ q. a q ∷ [] ≡ b q ∷ []) (λ q c. ap (λ (n : List Float). n ∷ []) (e q c)) (corners p w h f g)
+      (corners-inner p w h f g))
 
   listed-same : (f g : ℕ → ℕ → Float) (a b : ℕ → ℕ → ℕ) → ((x y : ℕ) → x < w → y < h → f x y ≡ g x y) → ((x y : ℕ) → x < w → y < h → a x y ≡ b x y)
       → listed m p w h f a ≡ listed m p w h g b
   listed-same f g a b e d =
       ap (each (λ q. numbers-by m p f q ∷ [])) (corners-same p w h f g a b e d) ∙ numbers-same (numbers-by m p f) (numbers-by m p g) g b at
     where
-      at : (q : Place) → Candidate q → numbers-by m p f q ≡ numbers-by m p g q
+      at : (q : Place) → Inner p w h q → numbers-by m p f q ≡ numbers-by m p g q
       at q c = unfold numbers-by in
           rw (
             e (q .x) (q .y) (omega arith) (omega arith),
@@ -252,7 +224,7 @@ module _ (m : Machine) (img : List ℕ) (w h : ℕ) (p : RadonDetectorParams) (s
           (written-each stride (numbers p f) (found (pixel img w) w h p) (b .list)
           ∙ ap (λ (l : List (List Float)). written stride (λ corner. corner) l (b .list)) (sym (corners-are ∙ ours-too)))
         where
-          at : (q : Place) → InRect (borderOf p) (W - borderOf p) (borderOf p) (H - borderOf p) q → numbers-by m p f q ≡ numbers p f q
+          at : (q : Place) → Inner p W H q → numbers-by m p f q ≡ numbers p f q
           at q c = numbers-as-rust m p W H f map-held logs (q .x) (q .y) (omega arith) (omega arith) (omega arith) (omega arith)
 
           ours-too : each (λ q. numbers-by m p f q ∷ []) (found (pixel img w) w h p) ≡ each (λ q. numbers p f q ∷ []) (found (pixel img w) w h p)

@@ -1,32 +1,29 @@
 -- The two cases of the finder's promise: a call that is refused, and one whose map and list follow. Assumes nothing.
 use mathlib.Core.Path.{_≡_, refl, sym, ap, _∙_}
-use mathlib.Core.Bool.{true, false}
 use mathlib.Core.List.{List}
-use Prim.Native.Nat.{ℕ, _*_, _/_, _≤_, _<_, min}
-use native.Mathlib.Nat.{le-trans, le-min, mul-le-mul}
+use Prim.Native.Nat.{ℕ, _*_, _≤_, _<_, min}
+use native.Mathlib.Nat.{le-min}
 use native.Mathlib.Omega.{arith}
 use borrow.Author.Tests.{eq-eqb, ne-eqb, le-ltb}
 use lib.ListN.{length}
-use lib.Dec.{eqb}
 use lib.Ieee.{Float, nan}
-use Rattle.grid.specs.Fill.{filled, length-filled}
-use Rattle.grid.specs.Plane.{plane, getD-plane, pixel-in}
+use Rattle.grid.specs.Fill.{length-filled}
+use Rattle.grid.specs.Plane.{getD-plane, pixel-in}
 use Rattle.grid.specs.Ways.{pixel}
 use Rattle.grid.specs.Over.{written}
 use Rattle.params.specs.declared.RadonDetectorParams.{RadonDetectorParams}
 use Rattle.params.specs.declared.Answer.{Answer}
-use Rattle.params.specs.declared.Answer.the-variants.{Complete}
 use Rattle.params.specs.declared.Outcome.{Outcome}
 use Rattle.params.specs.Settings.{factorOf, rayOf}
 use Rattle.params.specs.Answers.{numberOf, refused}
 use Rattle.params.specs.Refusals.{orElse, sizeRefusal, mapRefusal, listRefusal, roomRefusal, pixelsOf, refusalOf, mapRefusalOf}
-use Rattle.params.specs.Accepted.{SizesPass, both-pass, sizes-pass, room-passes}
+use Rattle.params.specs.Accepted.{both-pass, sizes-pass}
 use Rattle.response.specs.declared.Mapped.{Mapped}
-use Rattle.response.specs.Map.{Buffers as MapBuffers, roomOf, sideOf, workOf, mapOf, mapped, mappedBy, mapAt, mappedOf, buffersOf as mapBuffersOf}
+use Rattle.response.specs.Map.{Buffers as MapBuffers, roomOf, sideOf, workOf, mapOf, mapped, mappedBy, mappedOf, buffersOf as mapBuffersOf}
 use Rattle.response.specs.Runs.{Runs, runs-of, side-most}
 use Rattle.detect.specs.Window.{value}
-use Rattle.detect.specs.Corners.{corners, numbers, stride}
-use Rattle.detect.specs.Detected.{workingRefusal, peaksRefusal, refusalFor, foundIn, outcomeOf as peaksOutcome, listOf}
+use Rattle.detect.specs.Corners.{numbers, stride}
+use Rattle.detect.specs.Detected.{workingRefusal, peaksRefusal, foundIn, outcomeOf as peaksOutcome, listOf}
 use Rattle.detect.proofs.Inside.{corners-same, list-same}
 use Rattle.radon.specs.Finder.{Buffers, answered, found, outcomeOf, buffersOf}
 
