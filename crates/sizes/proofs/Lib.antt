@@ -1,0 +1,2 @@
+-- What fitting means, for the callers.
+pub mod Fitting

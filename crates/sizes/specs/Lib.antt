@@ -1,0 +1,2 @@
+-- Sizes that fit.
+pub mod Fits
