@@ -7,9 +7,11 @@ use native.Mathlib.Omega.{arith}
 use mathlib.Core.List.{List, [], _∷_, _++_}
 use lib.ListN.{take, drop}
 use lib.Seq.{take-nil, drop-nil}
-use Rattle.grid.specs.Fill.{filled, filled-nil, filled-ext, length-fill}
-use Rattle.grid.specs.Plane.{plane, plane-at, next-row}
-use Rattle.grid.specs.Loops.{Rows}
+use Rattle.grid.specs.Fill.{filled}
+use Rattle.grid.proofs.Fill.{filled-nil, filled-ext, length-fill}
+use Rattle.grid.specs.Plane.{plane}
+use Rattle.grid.proofs.Plane.{plane-at, next-row}
+use Rattle.grid.proofs.Loops.{Rows}
 
 module _ {ℓ} {A : Type ℓ} where
   front : (k : ℕ) (f : ℕ → A) (xs : List A) → filled k f (take k xs) ++ drop k xs ≡ filled k f xs

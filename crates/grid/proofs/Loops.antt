@@ -7,8 +7,10 @@ use native.Mathlib.Nat.{add-zero, add-assoc, zero-mul, mul-comm, mul-le-mul-righ
 use native.Mathlib.Omega.{arith}
 use mathlib.Core.List.{List}
 use lib.ListN.{length, set, getD, length-set}
-use Rattle.grid.specs.Fill.{filled, filled-zero, filled-filled, fill-step}
-use Rattle.grid.specs.Plane.{plane, plane-at, getD-plane, row-in, next-row}
+use Rattle.grid.specs.Fill.{filled}
+use Rattle.grid.proofs.Fill.{filled-zero, filled-filled, fill-step}
+use Rattle.grid.specs.Plane.{plane}
+use Rattle.grid.proofs.Plane.{plane-at, getD-plane, row-in, next-row}
 
 module _ {ℓ} {A : Type ℓ} where
   -- the entries below i are done
