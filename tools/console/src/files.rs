@@ -1,6 +1,6 @@
-//! Files of a folder, and reading without trust in their length.
+//! Files of a folder, and reading without trust in their kind or length.
 
-use std::fs::{self, File};
+use std::fs::{self, File, OpenOptions};
 use std::io::{self, Read};
 use std::path::{Path, PathBuf};
 
@@ -8,31 +8,84 @@ use std::path::{Path, PathBuf};
 pub const LONGEST: u64 = 4_096 * 4_096 + 65_536;
 
 /// The whole file, or nothing if it is longer than a frame can be; at most one byte more than that is read.
+/// Only a regular file is read, so that no pipe or device can keep the caller waiting.
 pub fn read(path: &Path) -> io::Result<Option<Vec<u8>>> {
+    let file = opened(path)?;
+    if !file.metadata()?.is_file() {
+        let text = "not a regular file (a folder, pipe, socket or device)";
+        return Err(io::Error::new(io::ErrorKind::InvalidInput, text));
+    }
+    limited(file)
+}
+
+/// The same of standard input, whatever that is.
+pub fn read_input() -> io::Result<Option<Vec<u8>>> {
+    limited(io::stdin())
+}
+
+fn limited(input: impl Read) -> io::Result<Option<Vec<u8>>> {
     let mut file = Vec::new();
-    File::open(path)?.take(LONGEST + 1).read_to_end(&mut file)?;
+    input.take(LONGEST + 1).read_to_end(&mut file)?;
     Ok((file.len() as u64 <= LONGEST).then_some(file))
 }
 
-/// The files with one of these endings in a folder and the folders below it, by name.
-pub fn inside(folder: &Path, endings: &[&str]) -> io::Result<Vec<PathBuf>> {
-    let mut found = Vec::new();
-    collect(folder, endings, &mut found)?;
-    found.sort();
-    Ok(found)
+/// Opening a pipe waits for its other end unless it is asked not to.
+#[cfg(unix)]
+fn opened(path: &Path) -> io::Result<File> {
+    use std::os::unix::fs::OpenOptionsExt;
+    const NONBLOCK: i32 = if cfg!(target_os = "linux") { 0o4000 } else { 4 };
+    OpenOptions::new().read(true).custom_flags(NONBLOCK).open(path)
 }
 
-fn collect(folder: &Path, endings: &[&str], found: &mut Vec<PathBuf>) -> io::Result<()> {
+#[cfg(not(unix))]
+fn opened(path: &Path) -> io::Result<File> {
+    OpenOptions::new().read(true).open(path)
+}
+
+/// What a walk through a folder found.
+#[derive(Default)]
+pub struct Inside {
+    /// The files with one of the endings, by name.
+    pub files: Vec<PathBuf>,
+    /// All folders that were walked, the first one among them.
+    pub folders: Vec<PathBuf>,
+    /// Folders and entries that could not be read, with the reason: none of them stops the others.
+    pub unread: Vec<(PathBuf, io::Error)>,
+}
+
+/// The files with one of these endings in a folder and the folders below it.
+pub fn inside(folder: &Path, endings: &[&str]) -> Inside {
+    let mut found = Inside::default();
+    let mut folders = vec![folder.to_path_buf()];
+    while let Some(folder) = folders.pop() {
+        match entries(&folder, endings) {
+            Ok((files, below)) => {
+                found.files.extend(files);
+                folders.extend(below);
+                found.folders.push(folder);
+            }
+            Err(error) => found.unread.push((folder, error)),
+        }
+    }
+    found.files.sort();
+    found.folders.sort();
+    found.unread.sort_by(|a, b| a.0.cmp(&b.0));
+    found
+}
+
+/// The files with an ending and the folders of one folder.
+fn entries(folder: &Path, endings: &[&str]) -> io::Result<(Vec<PathBuf>, Vec<PathBuf>)> {
+    let (mut files, mut folders) = (Vec::new(), Vec::new());
     for entry in fs::read_dir(folder)? {
         let entry = entry?;
         // The kind is the entry's own: a link to a folder is not followed, so no ring is walked.
         if entry.file_type()?.is_dir() {
-            collect(&entry.path(), endings, found)?;
+            folders.push(entry.path());
         } else if has_ending(&entry.path(), endings) {
-            found.push(entry.path());
+            files.push(entry.path());
         }
     }
-    Ok(())
+    Ok((files, folders))
 }
 
 fn has_ending(path: &Path, endings: &[&str]) -> bool {

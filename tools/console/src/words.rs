@@ -29,6 +29,8 @@ pub struct Words {
     words: vec::IntoIter<OsString>,
     /// After `--` everything is a path.
     paths: bool,
+    /// The value of a flag that was written with `=`, and the flag.
+    joined: Option<(String, OsString)>,
 }
 
 impl Words {
@@ -37,11 +39,15 @@ impl Words {
         Words {
             words: words.into_iter(),
             paths: false,
+            joined: None,
         }
     }
 
     /// The next flag or path; the wish for help is answered here.
     pub fn word(&mut self) -> Result<Option<Word>, Usage> {
+        if let Some((flag, _)) = self.joined.take() {
+            return Usage::wrong(format!("{flag} takes no value"));
+        }
         let Some(word) = self.words.next() else {
             return Ok(None);
         };
@@ -51,8 +57,16 @@ impl Words {
                 self.paths = true;
                 self.word()
             }
-            Some(flag) if flag.starts_with("--") && !self.paths => {
+            Some(word) if word.starts_with("--") && !self.paths => {
+                let (flag, value) = match word.split_once('=') {
+                    Some((flag, value)) => (flag, Some(value)),
+                    None => (word, None),
+                };
+                self.joined = value.map(|value| (flag.to_string(), value.into()));
                 Ok(Some(Word::Flag(flag.to_string())))
+            }
+            Some(word) if word.len() > 1 && word.starts_with('-') && !self.paths => {
+                Usage::wrong(format!("{word} is not known; a path that begins so goes after --"))
             }
             _ => Ok(Some(Word::Path(word.into()))),
         }
@@ -68,14 +82,19 @@ impl Words {
 
     /// The path after a flag.
     pub fn path(&mut self, flag: &str, wanted: &str) -> Result<PathBuf, Usage> {
-        let word = self.words.next().map(PathBuf::from);
+        let joined = self.joined.take().map(|(_, value)| value);
+        let word = joined.or_else(|| self.words.next()).map(PathBuf::from);
         word.ok_or_else(|| Usage::Wrong(format!("{flag} wants {wanted}")))
     }
 }
 
-/// Writes to standard output; where nobody reads it any more the command ends.
+/// Writes to standard output; where that cannot be the command ends, with a word unless it is only that nobody reads any more.
 pub fn say(text: &str) {
-    if io::stdout().write_all(text.as_bytes()).is_err() {
+    let mut out = io::stdout().lock();
+    if let Err(error) = out.write_all(text.as_bytes()).and_then(|()| out.flush()) {
+        if error.kind() != io::ErrorKind::BrokenPipe {
+            eprintln!("standard output: {error}");
+        }
         process::exit(1);
     }
 }

@@ -1,201 +1,254 @@
 //! `steyrbunk`: the fitters' command.
 
+mod digest;
 mod draw;
-mod frame;
+mod frame_file;
+mod gather;
+mod json;
 mod options;
 mod output;
-mod pgm;
 mod png;
-mod results;
+mod record;
+mod site;
+mod work;
 
-use std::collections::HashMap;
+use std::env;
 use std::path::{Path, PathBuf};
 use std::process::ExitCode;
-use std::{env, fs};
+use std::time::{Duration, SystemTime};
 
-use console::{say, Progress, Usage};
-use frame::{Named, Problem};
-use options::{Drawing, Options, HELP};
+use console::{say, shown, Progress, Usage};
+use gather::{Frame, Group};
+use options::{Call, Options, Place};
 use output::Format;
-use results::{Place, Results};
-use steyrbunk::{Finder, Found, Image};
+use record::{End, Record};
+use site::{path_of, Site};
+use steyrbunk::Settings;
+use work::{Done, Planned};
 
-/// Endings of the files that are looked for in folders.
-const ENDINGS: [&str; 2] = ["pgm", "frame"];
-
-/// One run over all files.
+/// One call over all its frames.
 struct Run<'a> {
     options: &'a Options,
-    finder: Finder,
+    started: SystemTime,
     progress: Progress,
     /// Whether each list on standard output gets its file's name in front.
     several: bool,
+    frames: u64,
+    /// Frames without a list.
     failed: u64,
+    /// What else went wrong.
+    problems: u64,
     /// Whether it was said that frame files have their own settings.
     noted: bool,
 }
 
 impl Run<'_> {
-    /// Something that a person should read, with the file's name.
-    fn tell(&mut self, name: &str, text: impl std::fmt::Display) {
+    /// Something that a person should read.
+    fn tell(&mut self, text: &str) {
         self.progress.clear();
-        eprintln!("{name}: {text}");
+        eprintln!("{text}");
     }
 
-    fn file(&mut self, path: &Path) {
-        let name = path.display().to_string();
-        let place = self.options.place.as_ref();
-        let results = place.map(|place| Results::of(path, place));
-        let format = self.options.format;
-        let text = match self.outcome(path, &name, results.as_ref()) {
-            Ok(found) => format.list(&name, &found),
-            Err(problem) => {
+    fn fail(&mut self, text: &str) {
+        self.problems += 1;
+        self.tell(text);
+    }
+
+    /// Notes, text and progress of a frame.
+    fn hear(&mut self, frame: &Frame, done: &Done, written: bool) {
+        self.frames += 1;
+        for note in &done.notes {
+            let once = note.starts_with("note: ");
+            if !once || !self.noted {
+                self.tell(&format!("{}: {note}", frame.shown));
+            }
+            self.noted |= once;
+        }
+        self.failed += u64::from(!matches!(done.record.end, End::Found { .. }));
+        if !written {
+            if self.several && self.options.format == Format::List {
+                say(&format!("# {}\n", frame.shown));
+            }
+            say(&done.text);
+        }
+        if self.several && !self.options.quiet {
+            let note = format!(", {} without a list", self.failed);
+            self.progress.show(self.frames, &note);
+        }
+    }
+
+    /// Lists to standard output.
+    fn print(&mut self, group: &Group) {
+        let planned: Vec<Planned> = group
+            .frames
+            .iter()
+            .map(|frame| Planned { frame, results: Ok(Vec::new()) })
+            .collect();
+        say(self.options.format.head());
+        let mut frames = group.frames.iter();
+        work::work(self.options, None, &planned, |done| {
+            let frame = frames.next().expect("a frame for each that is told of");
+            self.hear(frame, &done, false);
+        });
+    }
+
+    /// Lists into a folder: plan, results, manifest.
+    fn write(&mut self, group: &Group, site: &Site) -> std::io::Result<()> {
+        let planned: Vec<Planned> = group
+            .frames
+            .iter()
+            .map(|frame| Planned { frame, results: self.results(frame, site) })
+            .collect();
+        let rows: Vec<(Vec<u8>, Vec<u8>, &[PathBuf])> = planned
+            .iter()
+            .map(|planned| {
+                let name = planned.frame.name.as_os_str().as_encoded_bytes().to_vec();
+                let files = planned.results.as_deref().unwrap_or_default();
+                (name, planned.frame.whole_path(), files)
+            })
+            .collect();
+        let rows = rows.iter().map(|(name, path, files)| (&name[..], &path[..], *files));
+        site.plan(&record::plan(rows))?;
+        let mut records = self.gone(group, site);
+        let mut frames = group.frames.iter();
+        work::work(self.options, Some(site), &planned, |done| {
+            let frame = frames.next().expect("a frame for each that is told of");
+            self.hear(frame, &done, true);
+            records.push(done.record);
+        });
+        self.finish(group, site, records)
+    }
+
+    /// The results that a frame is to have, or what stands in their way.
+    fn results(&self, frame: &Frame, site: &Site) -> Result<Vec<PathBuf>, String> {
+        let endings = std::iter::once(self.options.format.ending())
+            .chain(self.options.drawings.iter().map(|drawing| drawing.ending()));
+        let results: Vec<PathBuf> = endings
+            .map(|ending| {
+                let mut name = frame.name.clone().into_os_string();
+                name.push(".");
+                name.push(ending);
+                name.into()
+            })
+            .collect();
+        match results.iter().find(|result| site.is_taken(result)) {
+            Some(result) => Err(format!(
+                "{} is there and not of an earlier run: it stays, and there is no new list",
+                shown(result)
+            )),
+            None => Ok(results),
+        }
+    }
+
+    /// Frames of the run before that were in a folder of this call and are there no more.
+    fn gone(&mut self, group: &Group, site: &Site) -> Vec<Record> {
+        let mut records = Vec::new();
+        for earlier in &site.before {
+            let path = path_of(&earlier.path);
+            let named = group.named.iter().any(|folder| path.starts_with(folder));
+            if named && std::fs::symlink_metadata(&path).is_err() {
+                self.frames += 1;
                 self.failed += 1;
-                self.tell(&name, &problem);
-                format.problem(&name, &problem)
+                self.tell(&format!("{}: {}", shown(&path), record::GONE));
+                records.push(Record {
+                    name: earlier.name.clone(),
+                    path: earlier.path.clone(),
+                    read: None,
+                    end: End::Gone,
+                    results: Vec::new(),
+                    time: Duration::ZERO,
+                });
             }
-        };
-        if results.is_none() {
-            if self.several && format == Format::List {
-                say(&format!("# {name}\n"));
-            }
-            say(&text);
         }
+        records
     }
 
-    /// Old results go first, so that nothing that happens later can leave one behind.
-    fn outcome(
-        &mut self,
-        path: &Path,
-        name: &str,
-        results: Option<&Results>,
-    ) -> Result<Found, Problem> {
-        results.map_or(Ok(()), Results::remove)?;
-        self.frame(name, &frame::read(path)?, results)
-    }
-
-    /// Finds, draws and writes; the list comes last, so that where it stands everything does.
-    fn frame(
-        &mut self,
-        name: &str,
-        file: &[u8],
-        results: Option<&Results>,
-    ) -> Result<Found, Problem> {
+    /// Gives the results their names, and writes the manifest last.
+    fn finish(&mut self, group: &Group, site: &Site, mut records: Vec<Record>) -> std::io::Result<()> {
+        for record in &mut records {
+            let named = record.results.iter().try_for_each(|result| site.name(result));
+            if let Err(error) = named {
+                record.results.iter().for_each(|result| site.unwrite(result));
+                record.results.clear();
+                self.failed += 1;
+                self.tell(&error.to_string());
+                record.end = End::Problem(error.into());
+            }
+        }
+        records.sort_by(|a, b| a.name.cmp(&b.name));
+        let results: Vec<PathBuf> = records.iter().flat_map(|record| record.results.clone()).collect();
         let Options { named, replace, .. } = self.options;
-        if !*replace && *named != Named::default() && !pgm::is_netpbm(file) && !self.noted {
-            self.noted = true;
-            self.tell(
-                name,
-                "note: a frame file has its own settings; --override replaces them",
-            );
-        }
-        let frame = frame::open(file, named, *replace)?;
-        let found = self.finder.find(frame.image, &frame.settings)?;
-        if let Some(results) = results {
-            self.draw(name, frame.image, &found, results)?;
-            let format = self.options.format;
-            let text = format.head().to_string() + &format.list(name, &found);
-            results.write(format.ending(), text.as_bytes())?;
-        }
-        Ok(found)
-    }
-
-    fn draw(
-        &mut self,
-        name: &str,
-        image: Image,
-        found: &Found,
-        results: &Results,
-    ) -> Result<(), Problem> {
-        if image.pixels.is_empty() && !self.options.drawings.is_empty() {
-            self.tell(name, "nothing to draw: the picture has no pixels");
-            return Ok(());
-        }
-        for drawing in &self.options.drawings {
-            match drawing {
-                Drawing::Svg => results.write("svg", &draw::svg(image, &found.corners))?,
-                Drawing::Png => results.write("png", &draw::picture(image, &found.corners))?,
-            }
-        }
-        Ok(())
+        let settings = named.over(Settings::default());
+        let records: Vec<&Record> = records.iter().collect();
+        let text = record::manifest(self.started, &settings, *replace, &group.problems, &records);
+        site.finish(&text, &results)
     }
 }
 
-/// Files as they are, folders as the pictures and frame files in them; a folder without any is said to be so.
-fn files(paths: &[PathBuf]) -> (Vec<PathBuf>, Vec<String>) {
-    let (mut files, mut problems) = (Vec::new(), Vec::new());
-    for path in paths {
-        if !fs::metadata(path).is_ok_and(|data| data.is_dir()) {
-            files.push(path.clone());
-            continue;
-        }
-        match console::inside(path, &ENDINGS) {
-            Ok(found) if found.is_empty() => {
-                problems.push(format!("{}: no .pgm or .frame file in it", path.display()))
-            }
-            Ok(found) => files.extend(found),
-            Err(error) => problems.push(format!("{}: {error}", path.display())),
-        }
-    }
-    (files, problems)
-}
-
-/// Two frames must not write the same result: the second would pass for the first.
-fn distinct(files: &[PathBuf], place: &Place) -> Result<(), Usage> {
-    let mut owners = HashMap::new();
-    for file in files {
-        let result = Results::of(file, place).path("corners");
-        if let Some(other) = owners.insert(result.clone(), file) {
-            let (a, b, result) = (other.display(), file.display(), result.display());
-            return Usage::wrong(format!(
-                "{a} and {b} would both write {result}; try --beside"
-            ));
-        }
-    }
-    Ok(())
-}
-
-fn run(options: &Options) -> Result<ExitCode, Usage> {
-    let (files, problems) = files(&options.paths);
-    if let Some(place) = &options.place {
-        distinct(&files, place)?;
-    }
+fn find(options: &Options) -> Result<ExitCode, Usage> {
+    let started = SystemTime::now();
     if let Some(Place::Folder(folder)) = &options.place {
-        fs::create_dir_all(folder)
-            .or_else(|error| Usage::wrong(format!("{}: {error}", folder.display())))?;
+        gather::make(folder).or_else(|error| Usage::wrong(error.to_string()))?;
     }
+    let groups = gather::gather(&options.paths, options.place.as_ref())?;
+    let total = groups.iter().map(|group| group.frames.len() as u64).sum();
     let mut run = Run {
         options,
-        finder: Finder::new(),
-        progress: Progress::new(Some(files.len() as u64)),
-        several: files.len() > 1,
-        failed: problems.len() as u64,
+        started,
+        progress: Progress::new(Some(total)),
+        several: total > 1,
+        frames: 0,
+        failed: 0,
+        problems: 0,
         noted: false,
     };
-    problems.iter().for_each(|problem| eprintln!("{problem}"));
-    if options.place.is_none() {
-        say(options.format.head());
+    // The runs before are taken away everywhere before any frame is read.
+    let mut sites = Vec::new();
+    for group in &groups {
+        sites.push(match &group.folder {
+            None => None,
+            Some(folder) => match Site::take(folder, &group.below) {
+                Ok(site) => Some(site),
+                Err(error) => {
+                    run.fail(&error.to_string());
+                    continue;
+                }
+            },
+        });
     }
-    for (done, file) in files.iter().enumerate() {
-        run.file(file);
-        if run.several && !options.quiet {
-            run.progress
-                .show(done as u64 + 1, &format!(", {} without a list", run.failed));
+    if sites.len() < groups.len() {
+        run.tell("nothing was found");
+        return Ok(ExitCode::from(1));
+    }
+    for (group, site) in groups.iter().zip(&sites) {
+        group.problems.iter().for_each(|problem| run.fail(problem));
+        match site {
+            None => run.print(group),
+            Some(site) => {
+                if let Err(error) = run.write(group, site) {
+                    run.fail(&format!("{error}; there is no run.json, and no list counts"));
+                }
+            }
         }
     }
     run.progress.clear();
     if run.several && !options.quiet {
-        eprintln!("{} frames, {} without a list", files.len(), run.failed);
+        eprintln!("{} frames, {} without a list", run.frames, run.failed);
     }
-    Ok(ExitCode::from(u8::from(run.failed > 0)))
+    Ok(ExitCode::from(u8::from(run.failed + run.problems > 0)))
 }
 
 fn main() -> ExitCode {
     let name = env::args().next().unwrap_or_default();
     let name = Path::new(&name)
         .file_name()
-        .map_or("steyrbunk".into(), |name| {
-            name.to_string_lossy().into_owned()
-        });
-    console::run(&name, HELP, |words| run(&options::options(words)?))
+        .map_or("steyrbunk".into(), |name| name.to_string_lossy().into_owned());
+    console::run(&name, &options::help(), |words| match options::call(words)? {
+        Call::Find(options) => find(&options),
+        Call::Frame(call) => frame_file::write(&call),
+        Call::Version => {
+            say(&format!("steyrbunk {}\n", env!("CARGO_PKG_VERSION")));
+            Ok(ExitCode::SUCCESS)
+        }
+    })
 }

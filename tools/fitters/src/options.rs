@@ -1,21 +1,27 @@
 //! The words of the call.
 
 use std::path::PathBuf;
+use std::thread::available_parallelism;
 
 use console::{Usage, Word, Words};
-use steyrbunk::PeakFit;
+use frames::{Named, SETTINGS_HELP};
 
-use crate::frame::Named;
 use crate::output::Format;
-use crate::results::Place;
 
-pub const HELP: &str = "\
+/// The help, with the settings that all commands share.
+pub fn help() -> String {
+    HELP.replace("SETTINGS\n", SETTINGS_HELP)
+}
+
+const HELP: &str = "\
 steyrbunk finds the corners of chessboard panels in camera frames.
 
   steyrbunk [OPTIONS] PATH...
+  steyrbunk frame [SETTINGS] PICTURE > FILE    the frame file of a picture
 
 A PATH is an 8-bit PGM picture (P5), a frame file, or a folder; of a folder, every .pgm and .frame
-file in it and below it is taken. Lists go to standard output, messages to standard error.
+file in it and below it is taken. - is standard input. Lists go to standard output, messages to
+standard error.
 
 Output
   --format list    sizes and count, then x, y and strength of each corner as bits in hex (default);
@@ -23,36 +29,61 @@ Output
   --format csv     file, corner, x, y, strength; one line a corner
   --format json    one object a frame, each on a line of its own
   --out FOLDER     writes the results into the folder, one file a frame: NAME.corners, NAME.csv or
-                   NAME.json, where NAME is the frame's whole file name
+                   NAME.json, where NAME is the frame's whole file name, in the same subfolders as
+                   the frames; of several folders each has its own name in front
   --beside         writes them beside each frame instead
   --draw svg       draws the corners over the picture too, as NAME.svg; needs --out or --beside
   --draw png       the same as NAME.png
+  --jobs N         frames at a time; default: as many as there are cores
   --quiet          no progress
+  --version        the version, and nothing else
 
-Settings, for PGM pictures; a frame file has its own
-  --ray-radius N             0 to 7, default 4; half length of the rays, in working pixels
-  --image-upsample N         1 or 2, default 2; working pixels along an input pixel
-  --response-blur-radius N   0 to 3, default 1
-  --peak-fit NAME            parabolic or gaussian, default gaussian
-  --threshold-rel F          0 to 1, default 0.28; a part of the frame's strongest response
-  --nms-radius N             0 to 32, default 4; half size of the window a corner must win
-  --min-cluster-size N       default 2; positive neighbours that a corner must have
+SETTINGS
   --override                 puts the settings named in the call over those of frame files
 
-Places are input pixels; the middle of the upper left pixel is 0, 0.
+Places are input pixels; the middle of the upper left pixel is 0, 0. A name with control characters
+or bytes that are no text is shown with \\xNN in their place.
 
-Old results. With --out and --beside every result that an earlier run left for a frame is removed
-before the frame is read, in whatever format it was. A new one is written under another name,
-brought to the disk, and only then given its own. A frame that is refused has no list at all.
+A run is whole or it is none. With --out and --beside the last thing written is run.json, in the
+output folder, or in the folder that was named or the folder of a file that was named: it lists
+every frame of the run with its answer and its results. Without a run.json no list counts; with one,
+every list that it names is of that run. The first thing that a run does is to take away the
+run.json of the run before and all results that it names. Nothing else is removed: a file that is in
+a result's place stays, is named, and its frame has no list. A run that is cut off leaves a
+run.plan, by which the next run clears up. Two runs do not write to one folder at a time.
 
-Status. 0 if every frame has a list; 1 if one was refused, damaged or could not be read or written:
-its name and the reason, with the number of a refusal, are on standard error; 2 if the words of the
-call are wrong.
+Status. 0 if every frame has a list; 1 if one was refused, damaged, gone since the run before, or
+could not be read or written: its name and the reason, with the number of a refusal, are on standard
+error; 2 if the words of the call are wrong.
 ";
 
+/// What is asked for.
+pub enum Call {
+    Find(Options),
+    Frame(FrameCall),
+    Version,
+}
+
+#[derive(Clone, Copy, PartialEq, Eq)]
 pub enum Drawing {
     Svg,
     Png,
+}
+
+impl Drawing {
+    /// The ending of its file.
+    pub fn ending(self) -> &'static str {
+        match self {
+            Drawing::Svg => "svg",
+            Drawing::Png => "png",
+        }
+    }
+}
+
+/// Where the results of frames go.
+pub enum Place {
+    Folder(PathBuf),
+    Beside,
 }
 
 pub struct Options {
@@ -60,26 +91,38 @@ pub struct Options {
     pub format: Format,
     pub place: Option<Place>,
     pub drawings: Vec<Drawing>,
+    pub jobs: usize,
     pub quiet: bool,
     pub named: Named,
     pub replace: bool,
 }
 
-pub fn options(mut words: Words) -> Result<Options, Usage> {
+/// A frame file is asked for.
+pub struct FrameCall {
+    pub picture: PathBuf,
+    pub named: Named,
+}
+
+pub fn call(mut words: Words) -> Result<Call, Usage> {
     let mut options = Options {
         paths: Vec::new(),
         format: Format::List,
         place: None,
         drawings: Vec::new(),
+        jobs: available_parallelism().map_or(1, usize::from),
         quiet: false,
         named: Named::default(),
         replace: false,
     };
+    let mut first = true;
     while let Some(word) = words.word()? {
         match word {
+            Word::Path(path) if first && path.as_os_str() == "frame" => return frame(words),
             Word::Path(path) => options.paths.push(path),
+            Word::Flag(flag) if flag == "--version" => return Ok(Call::Version),
             Word::Flag(flag) => options.flag(&flag, &mut words)?,
         }
+        first = false;
     }
     if options.paths.is_empty() {
         return Usage::wrong("no picture, frame file or folder is named");
@@ -87,12 +130,29 @@ pub fn options(mut words: Words) -> Result<Options, Usage> {
     if options.place.is_none() && !options.drawings.is_empty() {
         return Usage::wrong("--draw needs --out or --beside");
     }
-    Ok(options)
+    Ok(Call::Find(options))
+}
+
+fn frame(mut words: Words) -> Result<Call, Usage> {
+    let (mut pictures, mut named) = (Vec::new(), Named::default());
+    while let Some(word) = words.word()? {
+        match word {
+            Word::Path(path) => pictures.push(path),
+            Word::Flag(flag) => {
+                if !named.flag(&flag, &mut words)? {
+                    return Usage::wrong(format!("{flag} is not known with frame"));
+                }
+            }
+        }
+    }
+    match <[PathBuf; 1]>::try_from(pictures) {
+        Ok([picture]) => Ok(Call::Frame(FrameCall { picture, named })),
+        Err(_) => Usage::wrong("frame wants one picture; the folder of that name is ./frame"),
+    }
 }
 
 impl Options {
     fn flag(&mut self, flag: &str, words: &mut Words) -> Result<(), Usage> {
-        let named = &mut self.named;
         match flag {
             "--format" => {
                 let name: String = words.value(flag, "list, csv or json")?;
@@ -102,32 +162,27 @@ impl Options {
             }
             "--out" => self.write_to(Place::Folder(words.path(flag, "a folder")?))?,
             "--beside" => self.write_to(Place::Beside)?,
-            "--draw" => match words.value::<String>(flag, "svg or png")?.as_str() {
-                "svg" => self.drawings.push(Drawing::Svg),
-                "png" => self.drawings.push(Drawing::Png),
-                name => return Usage::wrong(format!("no drawing is called {name}")),
+            "--draw" => {
+                let drawing = match words.value::<String>(flag, "svg or png")?.as_str() {
+                    "svg" => Drawing::Svg,
+                    "png" => Drawing::Png,
+                    name => return Usage::wrong(format!("no drawing is called {name}")),
+                };
+                if !self.drawings.contains(&drawing) {
+                    self.drawings.push(drawing);
+                }
+            }
+            "--jobs" => match words.value(flag, "a number from 1 up")? {
+                0 => return Usage::wrong("--jobs wants a number from 1 up, not '0'"),
+                jobs => self.jobs = jobs,
             },
             "--quiet" => self.quiet = true,
             "--override" => self.replace = true,
-            "--ray-radius" => named.ray_radius = Some(words.value(flag, "a whole number")?),
-            "--image-upsample" => named.image_upsample = Some(words.value(flag, "a whole number")?),
-            "--response-blur-radius" => {
-                named.response_blur_radius = Some(words.value(flag, "a whole number")?)
+            _ => {
+                if !self.named.flag(flag, words)? {
+                    return Usage::wrong(format!("{flag} is not known"));
+                }
             }
-            "--peak-fit" => match words
-                .value::<String>(flag, "parabolic or gaussian")?
-                .as_str()
-            {
-                "parabolic" => named.peak_fit = Some(PeakFit::Parabolic),
-                "gaussian" => named.peak_fit = Some(PeakFit::Gaussian),
-                name => return Usage::wrong(format!("no peak fit is called {name}")),
-            },
-            "--threshold-rel" => named.threshold_rel = Some(words.value(flag, "a number")?),
-            "--nms-radius" => named.nms_radius = Some(words.value(flag, "a whole number")?),
-            "--min-cluster-size" => {
-                named.min_cluster_size = Some(words.value(flag, "a whole number")?)
-            }
-            _ => return Usage::wrong(format!("{flag} is not known")),
         }
         Ok(())
     }

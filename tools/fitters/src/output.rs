@@ -4,7 +4,8 @@ use std::fmt::Write;
 
 use steyrbunk::{printed, Corner, Found};
 
-use crate::frame::Problem;
+use console::json as quoted;
+use frames::Problem;
 
 #[derive(Clone, Copy, PartialEq, Eq)]
 pub enum Format {
@@ -53,17 +54,16 @@ impl Format {
 
     /// What stands in the place of a list that there is not; CSV has no line for it.
     pub fn problem(self, name: &str, problem: &Problem) -> String {
-        match (self, problem) {
-            (Format::List, Problem::Refused(refusal)) => printed(&Err(*refusal)),
-            (Format::Json, Problem::Refused(refusal)) => {
-                let (file, reason) = (quoted(name), quoted(refusal.sentence()));
-                format!(
-                    "{{\"file\":{file},\"refused\":{},\"reason\":{reason}}}\n",
-                    refusal.number()
-                )
+        let file = quoted(name.as_bytes());
+        match (self, problem.refusal()) {
+            (Format::List, Some(refusal)) => printed(&Err(refusal)),
+            (Format::Json, Some(refusal)) => {
+                let (number, reason) = (refusal.number(), quoted(refusal.sentence().as_bytes()));
+                format!("{{\"file\":{file},\"refused\":{number},\"reason\":{reason}}}\n")
             }
-            (Format::Json, Problem::Damaged(text)) => {
-                format!("{{\"file\":{},\"error\":{}}}\n", quoted(name), quoted(text))
+            (Format::Json, None) => {
+                let error = quoted(problem.to_string().as_bytes());
+                format!("{{\"file\":{file},\"error\":{error}}}\n")
             }
             _ => String::new(),
         }
@@ -91,25 +91,10 @@ fn json(name: &str, found: &Found) -> String {
     let corners: Vec<String> = found.corners.iter().map(corner).collect();
     format!(
         "{{\"file\":{},\"working_width\":{},\"working_height\":{},\"count\":{},\"corners\":[{}]}}\n",
-        quoted(name),
+        quoted(name.as_bytes()),
         found.width,
         found.height,
         corners.len(),
         corners.join(",")
     )
-}
-
-fn quoted(text: &str) -> String {
-    let mut out = String::from("\"");
-    for letter in text.chars() {
-        match letter {
-            '"' | '\\' => out.extend(['\\', letter]),
-            letter if letter < ' ' => {
-                write!(out, "\\u{:04x}", letter as u32).expect("a string takes all")
-            }
-            letter => out.push(letter),
-        }
-    }
-    out.push('"');
-    out
 }

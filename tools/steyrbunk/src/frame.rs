@@ -63,3 +63,24 @@ impl<'a> Frame<'a> {
         })
     }
 }
+
+/// The frame file of a frame, if its fields have room for the sizes and settings.
+pub fn bytes(frame: &Frame) -> Option<Vec<u8>> {
+    let Frame { image, settings } = frame;
+    let byte = |value: u32| u8::try_from(value).ok();
+    let side = |value: usize| u16::try_from(value).ok();
+    let length = u32::try_from(HEAD - LEAD + image.pixels.len()).ok()?;
+    let mut file = vec![VERSION];
+    file.extend(length.to_be_bytes());
+    file.extend(side(image.width)?.to_be_bytes());
+    file.extend(side(image.height)?.to_be_bytes());
+    file.push(byte(settings.ray_radius)?);
+    file.push(byte(settings.image_upsample)?);
+    file.push(byte(settings.response_blur_radius)?);
+    file.push(settings.peak_fit.number());
+    file.push(byte(settings.nms_radius)?);
+    file.extend(u16::try_from(settings.min_cluster_size).ok()?.to_be_bytes());
+    file.extend(settings.threshold_rel.to_bits().to_be_bytes());
+    file.extend(image.pixels);
+    Some(file)
+}

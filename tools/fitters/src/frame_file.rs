@@ -1,0 +1,70 @@
+//! The frame file of a picture with settings, so that every program reads the very same bytes.
+
+use std::io::{self, IsTerminal, Write};
+use std::process::ExitCode;
+
+use console::{shown, Usage};
+use frames::{Kind, Problem};
+use steyrbunk::frame::{bytes, Frame};
+
+use crate::gather::INPUT;
+use crate::options::FrameCall;
+
+/// What the program `corners` has room for.
+const PROGRAM_BYTES: usize = 2_324;
+const PROGRAM_PIXELS: usize = 2_304;
+
+pub fn write(call: &FrameCall) -> Result<ExitCode, Usage> {
+    if io::stdout().is_terminal() {
+        return Usage::wrong("a frame file is no text: send it to a file, as in > dawn.frame");
+    }
+    let made = made(call).and_then(|file| {
+        let mut out = io::stdout().lock();
+        out.write_all(&file).and_then(|()| out.flush())?;
+        Ok(())
+    });
+    match made {
+        Ok(()) => Ok(ExitCode::SUCCESS),
+        Err(problem) => {
+            eprintln!("{}: {problem}", shown(&call.picture));
+            Ok(ExitCode::from(1))
+        }
+    }
+}
+
+fn made(call: &FrameCall) -> Result<Vec<u8>, Problem> {
+    let too_long = || Problem::Damaged("longer than any picture that is taken".to_string());
+    let file = if call.picture.as_os_str() == INPUT {
+        console::read_input()?.ok_or_else(too_long)?
+    } else {
+        console::read(&call.picture)?.ok_or_else(too_long)?
+    };
+    if frames::kind(&file) == Kind::Frame {
+        return Err(Problem::Damaged("is a frame file already".to_string()));
+    }
+    let frame = frames::open(&call.picture, &file, &call.named, false)?;
+    let made = bytes(&frame).ok_or_else(|| {
+        Problem::Damaged("a frame file has no room for such sizes or settings".to_string())
+    })?;
+    for limit in exceeded(&frame, made.len()) {
+        eprintln!("{}: note: {limit}", shown(&call.picture));
+    }
+    Ok(made)
+}
+
+/// The limits of the program that a frame is over.
+fn exceeded(frame: &Frame, length: usize) -> Vec<String> {
+    let factor = frame.settings.factor();
+    let pixels = frame.image.width * frame.image.height * factor * factor;
+    let mut limits = Vec::new();
+    if length > PROGRAM_BYTES {
+        limits.push(format!(
+            "{length} bytes: the program `corners` has room for {PROGRAM_BYTES} and answers 10"
+        ));
+    } else if pixels > PROGRAM_PIXELS {
+        limits.push(format!(
+            "{pixels} working pixels: the program `corners` has room for {PROGRAM_PIXELS} and answers 9"
+        ));
+    }
+    limits
+}

@@ -1,0 +1,196 @@
+//! Which frames a call means, and where the results of each go.
+
+use std::collections::HashMap;
+use std::path::{absolute, Path, PathBuf};
+use std::{fs, io};
+
+use console::{shown, Usage};
+
+use crate::options::Place;
+
+/// Endings of the files that are looked for in folders.
+const ENDINGS: [&str; 2] = ["pgm", "frame"];
+/// The path that means standard input, and what its results are called.
+pub const INPUT: &str = "-";
+const INPUT_NAME: &str = "stdin";
+
+/// A frame that is still to be read.
+pub struct Frame {
+    /// Nothing for standard input.
+    pub path: Option<PathBuf>,
+    /// Its name as it is shown.
+    pub shown: String,
+    /// Its name below the folder that was named: its results begin with it.
+    pub name: PathBuf,
+}
+
+impl Frame {
+    /// Where it is read from, as a whole path.
+    pub fn whole_path(&self) -> Vec<u8> {
+        let path = self.path.as_deref().unwrap_or(Path::new(INPUT));
+        let whole = if self.path.is_some() { absolute(path) } else { Ok(path.into()) };
+        let whole = whole.unwrap_or_else(|_| path.to_path_buf());
+        whole.into_os_string().into_encoded_bytes()
+    }
+}
+
+/// The frames whose results go to one folder.
+#[derive(Default)]
+pub struct Group {
+    /// Nothing for standard output.
+    pub folder: Option<PathBuf>,
+    /// Folders below it that may hold the results of an earlier run.
+    pub below: Vec<PathBuf>,
+    /// The folders that were named, as whole paths.
+    pub named: Vec<PathBuf>,
+    pub frames: Vec<Frame>,
+    /// What could not be looked into.
+    pub problems: Vec<String>,
+}
+
+/// The frames of a call by the folder of their results. Only folders are read.
+pub fn gather(paths: &[PathBuf], place: Option<&Place>) -> Result<Vec<Group>, Usage> {
+    let mut groups: Vec<Group> = Vec::new();
+    if !matches!(place, Some(Place::Beside)) {
+        let folder = match place {
+            Some(Place::Folder(folder)) => Some(folder.clone()),
+            _ => None,
+        };
+        groups.push(Group { folder, ..Group::default() });
+    }
+    for path in paths {
+        let found = look(path, paths.len() > 1)?;
+        match place {
+            Some(Place::Beside) => beside(&mut groups, path, found)?,
+            _ => groups[0].join(found),
+        }
+    }
+    groups.iter_mut().for_each(Group::order);
+    groups.iter().try_for_each(distinct)?;
+    Ok(groups)
+}
+
+impl Group {
+    fn join(&mut self, other: Group) {
+        self.named.extend(other.named);
+        self.frames.extend(other.frames);
+        self.problems.extend(other.problems);
+    }
+
+    /// By name; a frame that was named twice is taken once where it has results.
+    fn order(&mut self) {
+        self.frames.sort_by(|a, b| a.name.cmp(&b.name));
+        if self.folder.is_some() {
+            self.frames.dedup_by(|a, b| a.name == b.name && a.whole_path() == b.whole_path());
+        }
+    }
+}
+
+/// A path as it was named: standard input, a file, or a folder with all that is in it and below.
+fn look(path: &Path, several: bool) -> Result<Group, Usage> {
+    if path == Path::new(INPUT) {
+        return Ok(Group {
+            frames: vec![Frame {
+                path: None,
+                shown: "standard input".to_string(),
+                name: INPUT_NAME.into(),
+            }],
+            ..Group::default()
+        });
+    }
+    if !fs::metadata(path).is_ok_and(|data| data.is_dir()) {
+        let name = path.file_name().map_or_else(|| path.into(), PathBuf::from);
+        return Ok(Group {
+            frames: vec![Frame { path: Some(path.into()), shown: shown(path), name }],
+            ..Group::default()
+        });
+    }
+    let found = console::inside(path, &ENDINGS);
+    // Of several folders each has its own name in front, so that two cameras never share one.
+    let front = if several { own_name(path) } else { PathBuf::new() };
+    let frame = |file: PathBuf| Frame {
+        shown: shown(&file),
+        name: front.join(file.strip_prefix(path).unwrap_or(&file)),
+        path: Some(file),
+    };
+    let mut problems: Vec<String> = found
+        .unread
+        .iter()
+        .map(|(path, error)| format!("{}: {error}", shown(path)))
+        .collect();
+    if found.files.is_empty() && problems.is_empty() {
+        problems.push(format!("{}: no .pgm or .frame file in it", shown(path)));
+    }
+    Ok(Group {
+        folder: None,
+        below: found.folders.into_iter().filter(|folder| folder != path).collect(),
+        named: absolute(path).into_iter().collect(),
+        frames: found.files.into_iter().map(frame).collect(),
+        problems,
+    })
+}
+
+/// The last part of a folder's whole path.
+fn own_name(folder: &Path) -> PathBuf {
+    let whole = fs::canonicalize(folder).unwrap_or_else(|_| folder.to_path_buf());
+    whole.file_name().map_or_else(PathBuf::new, PathBuf::from)
+}
+
+/// Results beside the frames: a folder that was named has its own manifest, and so has the folder of a file.
+fn beside(groups: &mut Vec<Group>, path: &Path, mut found: Group) -> Result<(), Usage> {
+    if path == Path::new(INPUT) {
+        return Usage::wrong("standard input has no place beside it; try --out");
+    }
+    let folder = if found.named.is_empty() {
+        let parent = path.parent().filter(|parent| !parent.as_os_str().is_empty());
+        parent.unwrap_or(Path::new(".")).to_path_buf()
+    } else {
+        // Names below the folder itself: it has its own manifest.
+        for frame in &mut found.frames {
+            let below = frame.path.as_deref().and_then(|file| file.strip_prefix(path).ok());
+            frame.name = below.map_or_else(PathBuf::new, Path::to_path_buf);
+        }
+        path.to_path_buf()
+    };
+    let same = |a: &Path, b: &Path| match (fs::canonicalize(a), fs::canonicalize(b)) {
+        (Ok(a), Ok(b)) => a == b,
+        _ => a == b,
+    };
+    let at = groups
+        .iter()
+        .position(|group| group.folder.as_deref().is_some_and(|other| same(other, &folder)));
+    let group = match at {
+        Some(at) => &mut groups[at],
+        None => {
+            groups.push(Group { folder: Some(folder), ..Group::default() });
+            groups.last_mut().expect("it was just put there")
+        }
+    };
+    group.below.append(&mut found.below);
+    group.join(found);
+    Ok(())
+}
+
+/// Two frames must not write the same result: the second would pass for the first.
+fn distinct(group: &Group) -> Result<(), Usage> {
+    let Some(folder) = &group.folder else {
+        return Ok(());
+    };
+    let mut owners = HashMap::new();
+    for frame in &group.frames {
+        if let Some(other) = owners.insert(&frame.name, &frame.shown) {
+            return Usage::wrong(format!(
+                "{other} and {} would both write {}; name their folders instead",
+                frame.shown,
+                shown(&folder.join(&frame.name))
+            ));
+        }
+    }
+    Ok(())
+}
+
+/// Makes the folder of the results, if it is not there.
+pub fn make(folder: &Path) -> io::Result<()> {
+    fs::create_dir_all(folder)
+        .map_err(|error| io::Error::new(error.kind(), format!("{}: {error}", shown(folder))))
+}

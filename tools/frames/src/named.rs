@@ -1,0 +1,69 @@
+//! The settings that a call names, by the same words for every command.
+
+use console::{Usage, Words};
+use steyrbunk::{PeakFit, Settings};
+
+pub const SETTINGS_HELP: &str = "\
+Settings, for PGM pictures; a frame file has its own
+  --ray-radius N             0 to 7, default 4; half length of the rays, in working pixels
+  --image-upsample N         1 or 2, default 2; working pixels along an input pixel
+  --response-blur-radius N   0 to 3, default 1
+  --peak-fit NAME            parabolic or gaussian, default gaussian
+  --threshold-rel F          0 to 1, default 0.28; a part of the frame's strongest response
+  --nms-radius N             0 to 32, default 4; half size of the window a corner must win
+  --min-cluster-size N       default 2; positive neighbours that a corner must have
+";
+
+/// The settings that the call names.
+#[derive(Default, Clone, Copy, PartialEq)]
+pub struct Named {
+    pub ray_radius: Option<u32>,
+    pub image_upsample: Option<u32>,
+    pub response_blur_radius: Option<u32>,
+    pub peak_fit: Option<PeakFit>,
+    pub threshold_rel: Option<f32>,
+    pub nms_radius: Option<u32>,
+    pub min_cluster_size: Option<u32>,
+}
+
+impl Named {
+    /// Takes a setting's flag with its value; false if the flag names no setting.
+    pub fn flag(&mut self, flag: &str, words: &mut Words) -> Result<bool, Usage> {
+        const WHOLE: &str = "a whole number";
+        match flag {
+            "--ray-radius" => self.ray_radius = Some(words.value(flag, WHOLE)?),
+            "--image-upsample" => match words.value(flag, "1 or 2")? {
+                factor @ 1..=2 => self.image_upsample = Some(factor),
+                factor => return Usage::wrong(format!("{flag} wants 1 or 2, not '{factor}'")),
+            },
+            "--response-blur-radius" => self.response_blur_radius = Some(words.value(flag, WHOLE)?),
+            "--peak-fit" => {
+                let wanted = "parabolic or gaussian";
+                self.peak_fit = match words.value::<String>(flag, wanted)?.as_str() {
+                    "parabolic" => Some(PeakFit::Parabolic),
+                    "gaussian" => Some(PeakFit::Gaussian),
+                    name => return Usage::wrong(format!("no peak fit is called {name}")),
+                }
+            }
+            "--threshold-rel" => self.threshold_rel = Some(words.value(flag, "a number")?),
+            "--nms-radius" => self.nms_radius = Some(words.value(flag, WHOLE)?),
+            "--min-cluster-size" => self.min_cluster_size = Some(words.value(flag, WHOLE)?),
+            _ => return Ok(false),
+        }
+        Ok(true)
+    }
+
+    pub fn over(&self, base: Settings) -> Settings {
+        Settings {
+            ray_radius: self.ray_radius.unwrap_or(base.ray_radius),
+            image_upsample: self.image_upsample.unwrap_or(base.image_upsample),
+            response_blur_radius: self
+                .response_blur_radius
+                .unwrap_or(base.response_blur_radius),
+            peak_fit: self.peak_fit.unwrap_or(base.peak_fit),
+            threshold_rel: self.threshold_rel.unwrap_or(base.threshold_rel),
+            nms_radius: self.nms_radius.unwrap_or(base.nms_radius),
+            min_cluster_size: self.min_cluster_size.unwrap_or(base.min_cluster_size),
+        }
+    }
+}
