@@ -2,9 +2,6 @@
 
 use steyrbunk::Image;
 
-/// Sides past this are the finder's to refuse; no pixels are looked for.
-const GREATEST_SIDE: u32 = 4_096;
-
 /// Whether a file says that it is some PGM, or a kin of it.
 pub fn is_netpbm(file: &[u8]) -> bool {
     matches!(file, [b'P', b'0'..=b'9', ..])
@@ -38,7 +35,8 @@ pub fn parse(file: &[u8]) -> Result<Image<'_>, String> {
         width: width as usize,
         height: height as usize,
     };
-    if width > GREATEST_SIDE || height > GREATEST_SIDE {
+    // Too long a side is the finder's to refuse; no pixels are looked for.
+    if width.max(height) as usize > limits::SIDE {
         return Ok(image(&[]));
     }
     // One white space stands before the pixels.
