@@ -1,4 +1,4 @@
-//! Writes the module tree that compiles the published files from where they lie, unchanged.
+//! Writes the module tree that compiles the published files, their text unchanged.
 
 use std::path::{Path, PathBuf};
 use std::{env, fs, process};
@@ -8,18 +8,18 @@ const VARIABLE: &str = "CHESS_CORNERS_RS";
 /// Where the files lie if the variable is not set: beside the repository.
 const DEFAULT: &str = "../../../shared/docs/src";
 const CORE: &str = "crates/chess-corners-core/src";
-/// What stands behind the original's response for the benchmark; a path from either package.
-const PASSES: &str = "../judge/src/passes.rs";
+/// The file with a module of ours behind its text, for what is private in it; and that module, a path from either package.
+const RESPONSE: &str = "detect/radon/response.rs";
+const OPENED: &str = "../judge/src/opened.rs";
 
-const FILES: [(&str, &str); 5] = [
+/// The files that are compiled where they lie.
+const FILES: [(&str, &str); 4] = [
     ("IMAGEVIEW", "imageview.rs"),
     ("NEIGHBORS", "detect/neighbors.rs"),
     ("PRIMITIVES", "detect/radon/primitives.rs"),
-    ("RESPONSE", "detect/radon/response.rs"),
     ("DETECT", "detect/radon/detect.rs"),
 ];
 
-/// The tree. The view's fields are open to `radon` alone, so its two helpers stand there.
 const TREE: &str = r#"
 #[path = IMAGEVIEW]
 #[allow(dead_code)]
@@ -39,32 +39,17 @@ mod detect {
         pub(crate) mod response;
         #[path = DETECT]
         pub(crate) mod detect;
-        #[path = OPENED]
-        pub(crate) mod opened;
         pub(crate) use response::RadonBuffers;
-        use response::RadonResponseView;
-
-        /// A view over any two slices.
-        pub(crate) fn view<'a>(
-            data: &'a [f32],
-            image: &'a [u8],
-            w: usize,
-            h: usize,
-        ) -> RadonResponseView<'a> {
-            RadonResponseView { data, image, w, h }
-        }
-
-        /// Response and working image behind a view.
-        pub(crate) fn parts<'a>(view: &RadonResponseView<'a>) -> (&'a [f32], &'a [u8]) {
-            (view.data, view.image)
-        }
     }
 }
 "#;
 
+fn package() -> PathBuf {
+    PathBuf::from(env::var("CARGO_MANIFEST_DIR").expect("set by cargo"))
+}
+
 fn checkout() -> PathBuf {
-    let package = PathBuf::from(env::var("CARGO_MANIFEST_DIR").expect("set by cargo"));
-    package.join(env::var(VARIABLE).unwrap_or_else(|_| DEFAULT.to_string()))
+    package().join(env::var(VARIABLE).unwrap_or_else(|_| DEFAULT.to_string()))
 }
 
 fn published(core: &Path, name: &str) -> PathBuf {
@@ -77,32 +62,29 @@ fn published(core: &Path, name: &str) -> PathBuf {
     })
 }
 
-/// The response's text a second time, with a module of ours behind it. Its passes are private, and only a module within sees them.
-/// The benchmark times them through it; nothing is judged by it.
-fn opened(response: &Path) -> String {
-    let package = PathBuf::from(env::var("CARGO_MANIFEST_DIR").expect("set by cargo"));
-    let passes = package.join(PASSES);
-    println!("cargo:rerun-if-changed={}", passes.display());
-    let text = fs::read_to_string(response).expect("a published file can be read");
-    format!("{text}\n#[path = {passes:?}]\npub(crate) mod passes;\n")
+/// The published text, and behind it the line that names our module.
+fn opened(core: &Path) -> String {
+    let text = fs::read_to_string(published(core, RESPONSE)).expect("a file that is there");
+    let module = package().join(OPENED);
+    println!("cargo:rerun-if-changed={}", module.display());
+    format!("{text}\n#[path = {module:?}]\npub(crate) mod opened;\n")
 }
 
 fn main() {
     println!("cargo:rerun-if-env-changed={VARIABLE}");
     let core = checkout().join(CORE);
     let out = PathBuf::from(env::var("OUT_DIR").expect("set by cargo"));
-    let point = |tree: String, mark: &str, path: &Path| {
-        tree.replace(&format!("= {mark}]"), &format!("= {path:?}]"))
-    };
     let write = |name: &str, text: String| {
         let path = out.join(name);
         fs::write(&path, text).expect("the build directory can be written");
         path
     };
+    let point = |tree: String, mark: &str, path: &Path| {
+        tree.replace(&format!("= {mark}]"), &format!("= {path:?}]"))
+    };
     let tree = FILES.iter().fold(TREE.to_string(), |tree, (mark, name)| {
         point(tree, mark, &published(&core, name))
     });
-    let response = published(&core, "detect/radon/response.rs");
-    let tree = point(tree, "OPENED", &write("opened.rs", opened(&response)));
-    write("original.rs", tree);
+    let response = write("response.rs", opened(&core));
+    write("original.rs", point(tree, "RESPONSE", &response));
 }

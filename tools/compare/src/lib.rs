@@ -5,7 +5,6 @@ mod gaussian;
 mod pair;
 mod source;
 mod summary;
-mod tables;
 
 pub use difference::{Difference, What};
 pub use gaussian::{Class, Distances, BOUND, CURVATURES};

@@ -24,7 +24,6 @@ three logarithms) in working pixels, at most by one pixel, and by one step of an
   --max-side M     made frames with sides up to M; without it they have the program's size, up to
                    2,304 working pixels
   --bound B        the bound for Gaussian places (default 5e-6)
-  --no-tables      leaves the four tables and the scratch out, which is several times as fast
   --lists          prints both lists of each frame
   --each           prints a line for each made frame; for files this is done anyway
   --keep FOLDER    writes each frame that differs into the folder
@@ -36,7 +35,6 @@ there was nothing to compare, 2 if the words of the call are wrong.
 
 struct Options {
     bound: f64,
-    tables: bool,
     lists: bool,
     each: bool,
     keep: Option<PathBuf>,
@@ -46,7 +44,6 @@ struct Options {
 fn options(mut words: Words) -> Result<(Options, Source), Usage> {
     let mut options = Options {
         bound: BOUND,
-        tables: true,
         lists: false,
         each: false,
         keep: None,
@@ -68,7 +65,6 @@ fn options(mut words: Words) -> Result<(Options, Source), Usage> {
             "--first" => first = words.value(&flag, "a number")?,
             "--max-side" => sizes = Sizes::up_to(words.value(&flag, "a number of pixels")?),
             "--bound" => options.bound = words.value(&flag, "a number")?,
-            "--no-tables" => options.tables = false,
             "--lists" => options.lists = true,
             "--each" => options.each = true,
             "--keep" => options.keep = Some(words.path(&flag, "a folder")?),
@@ -125,7 +121,6 @@ fn run(options: &Options, source: Source) -> Summary {
             let (sender, source) = (sender.clone(), &source);
             scope.spawn(move || {
                 let mut pair = Pair::new(options.bound);
-                pair.tables = options.tables;
                 loop {
                     let (number, jobs) = {
                         let mut source = source.lock().expect("no worker panics with it");

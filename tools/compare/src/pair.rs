@@ -2,23 +2,19 @@
 
 use std::fmt;
 
-use judge::original::{self, RadonBuffers};
-use judge::{accepted, Room};
+use judge::{accepted, original, sums, Detector, Room};
 use steyrbunk::frame::Frame;
 use steyrbunk::{printed, Corner, Finder, Found, Map, PeakFit, Refusal};
 
 use crate::difference::{Difference, What};
 use crate::gaussian::{Distances, Places};
-use crate::tables;
 
 /// The two programs, each with the buffers that it keeps from frame to frame.
 pub struct Pair {
-    theirs: RadonBuffers,
+    theirs: Detector,
     ours: Finder,
     /// How far Gaussian places may lie apart: in working pixels, times the peak's curvature.
     pub bound: f64,
-    /// Whether the four tables and the scratch are compared; the rest always is.
-    pub tables: bool,
 }
 
 /// Both outcomes, how they differ beyond what is allowed, and how far Gaussian places lie apart.
@@ -69,10 +65,9 @@ impl fmt::Display for Held {
 impl Pair {
     pub fn new(bound: f64) -> Pair {
         Pair {
-            theirs: RadonBuffers::new(),
+            theirs: Detector::new(),
             ours: Finder::new(),
             bound,
-            tables: true,
         }
     }
 
@@ -120,63 +115,70 @@ impl Pair {
             Ok(frame) => frame,
             Err(number) => return (Err(number), Vec::new()),
         };
-        let params = original::params(&frame);
-        let (width, height) = (frame.width.into(), frame.height.into());
-        let buffers = &mut self.theirs;
-        let view = original::radon_response_u8(&frame.pixels, width, height, &params, buffers);
+        let theirs = self.theirs.find(&frame);
         let corner = |[x, y, strength]: [f32; 3]| Corner { x, y, strength };
-        let list = original::detect_peaks_from_radon(&view, &params);
         let found = Found {
-            corners: list.into_iter().map(corner).collect(),
-            width: view.width(),
-            height: view.height(),
+            corners: theirs.corners.into_iter().map(corner).collect(),
+            width: theirs.map.w,
+            height: theirs.map.h,
         };
-        let mut differences = Vec::new();
-        if mapped {
-            let (response, working) = original::parts(&view);
-            differences = maps(response, working, &found, self.ours.map());
-            if self.tables && differences.is_empty() {
-                differences.extend(tables::difference(&self.theirs, self.ours.map()));
-            }
-        }
+        let differences = if mapped {
+            maps(theirs.map, self.ours.map())
+        } else {
+            Vec::new()
+        };
         (Ok(found), differences)
     }
 }
 
-/// Sizes, working image and response.
-fn maps(response: &[f32], working: &[u8], found: &Found, map: Map) -> Vec<Difference> {
-    let (theirs, ours) = ((found.width, found.height), (map.width, map.height));
-    if theirs != ours {
+/// Sizes, or else the first entry of each buffer that differs.
+fn maps(theirs: original::Map, ours: Map) -> Vec<Difference> {
+    let sizes = ((theirs.w, theirs.h), (ours.width, ours.height));
+    if sizes.0 != sizes.1 {
+        let (theirs, ours) = sizes;
         return vec![Difference::Sizes { theirs, ours }];
     }
-    let bits = |value: &f32| value.to_bits();
+    // Where the map is not blurred the scratch is an older frame's, and ours is empty.
+    let scratch = &theirs.scratch[..ours.blur_scratch.len()];
+    let first = |what, theirs, ours: &[u32]| first(what, sizes.1 .0, theirs, ours);
     let entries = [
-        first(What::Working, map.width, working, map.working, |byte| {
-            u32::from(*byte)
-        }),
-        first(What::Response, map.width, response, map.response, bits),
+        first(What::Working, bytes(theirs.working), &bytes(ours.working)),
+        first(What::RowTable, sums(theirs.row), ours.row_cumsum),
+        first(What::ColumnTable, sums(theirs.col), ours.col_cumsum),
+        first(
+            What::FallingTable,
+            sums(theirs.diag_pos),
+            ours.diag_pos_cumsum,
+        ),
+        first(
+            What::RisingTable,
+            sums(theirs.diag_neg),
+            ours.diag_neg_cumsum,
+        ),
+        first(What::Response, bits(theirs.response), &bits(ours.response)),
+        first(What::Scratch, bits(scratch), &bits(ours.blur_scratch)),
     ];
     entries.into_iter().flatten().collect()
 }
 
-/// The first entry that differs in its bits.
-fn first<T>(
-    what: What,
-    w: usize,
-    theirs: &[T],
-    ours: &[T],
-    bits: impl Fn(&T) -> u32,
-) -> Option<Difference> {
-    let at = theirs
-        .iter()
-        .zip(ours)
-        .position(|(a, b)| bits(a) != bits(b))?;
+fn bytes(pixels: &[u8]) -> Vec<u32> {
+    pixels.iter().copied().map(u32::from).collect()
+}
+
+fn bits(values: &[f32]) -> Vec<u32> {
+    values.iter().copied().map(f32::to_bits).collect()
+}
+
+/// The first entry that differs in a buffer so wide.
+fn first(what: What, w: usize, theirs: Vec<u32>, ours: &[u32]) -> Option<Difference> {
+    assert_eq!(theirs.len(), ours.len(), "the length of the {what}");
+    let at = theirs.iter().zip(ours).position(|(a, b)| a != b)?;
     Some(Difference::Entry {
         what,
         x: at % w,
         y: at / w,
-        theirs: bits(&theirs[at]),
-        ours: bits(&ours[at]),
+        theirs: theirs[at],
+        ours: ours[at],
     })
 }
 
@@ -223,4 +225,57 @@ fn corner(index: usize, theirs: [u32; 3], ours: [u32; 3], near: [bool; 3]) -> Op
         theirs: theirs[at],
         ours: ours[at],
     })
+}
+
+#[cfg(test)]
+mod tests {
+    use steyrbunk::{Image, Settings};
+
+    use super::*;
+
+    /// One entry changed in each buffer in turn: it is found where it stands, and named.
+    #[test]
+    fn each_buffer_is_read() {
+        let frame = judge::Frame {
+            blur: 1,
+            ..judge::document_frame()
+        };
+        let mut theirs = Detector::new();
+        let theirs = theirs.find(&frame).map;
+        let settings = Settings {
+            ray_radius: 1,
+            image_upsample: 1,
+            response_blur_radius: 1,
+            ..Settings::default()
+        };
+        let image = Image {
+            pixels: &frame.pixels,
+            width: 7,
+            height: 7,
+        };
+        let mut finder = Finder::new();
+        let map = finder.response(image, &settings).expect("accepted");
+        assert_eq!(maps(theirs, map), []);
+        let found = |map: Map| match maps(theirs, map).as_slice() {
+            [Difference::Entry {
+                what, x: 6, y: 6, ..
+            }] => Some(*what),
+            _ => None,
+        };
+        macro_rules! changed {
+            ($buffer:ident, $by:expr, $what:expr) => {
+                let mut $buffer = map.$buffer.to_vec();
+                $buffer[48] += $by;
+                let $buffer = &$buffer[..];
+                assert_eq!(found(Map { $buffer, ..map }), Some($what));
+            };
+        }
+        changed!(working, 1, What::Working);
+        changed!(row_cumsum, 1, What::RowTable);
+        changed!(col_cumsum, 1, What::ColumnTable);
+        changed!(diag_pos_cumsum, 1, What::FallingTable);
+        changed!(diag_neg_cumsum, 1, What::RisingTable);
+        changed!(response, 1.0, What::Response);
+        changed!(blur_scratch, 1.0, What::Scratch);
+    }
 }

@@ -4,8 +4,8 @@ use std::fs::{self, File, OpenOptions};
 use std::io::{self, Read};
 use std::path::{Path, PathBuf};
 
-/// Bytes of the longest file that can hold a frame: 4,096 by 4,096 pixels and an opening, comments and all.
-pub const LONGEST: u64 = 4_096 * 4_096 + 65_536;
+/// Bytes of the longest file that can hold a frame: the greatest sides and an opening, comments and all.
+pub const LONGEST: u64 = (limits::SIDE * limits::SIDE) as u64 + 65_536;
 
 /// The whole file, or nothing if it is longer than a frame can be; at most one byte more than that is read.
 /// Only a regular file is read, so that no pipe or device can keep the caller waiting.

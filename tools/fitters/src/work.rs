@@ -8,7 +8,7 @@ use std::thread;
 use std::time::Instant;
 
 use frames::{Kind, Named, Problem};
-use steyrbunk::{Finder, Found, Image, Refusal, MOST_WORKING_PIXELS};
+use steyrbunk::{Finder, Found, Image, Refusal};
 
 use crate::digest::sha256;
 use crate::draw;
@@ -153,7 +153,7 @@ fn drawn(drawing: &Drawing, image: Image, found: &Found) -> Vec<u8> {
 /// A frame that is too large doubled may do as it is.
 fn advised(refusal: Refusal, image: Image) -> Problem {
     match refusal {
-        Refusal::TooManyPixels if image.pixels.len() <= MOST_WORKING_PIXELS => {
+        Refusal::TooManyPixels if image.pixels.len() <= limits::WORKING => {
             Problem::Advised(refusal, "--image-upsample 1 would do")
         }
         _ => Problem::Refused(refusal),

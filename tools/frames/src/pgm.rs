@@ -2,9 +2,6 @@
 
 use steyrbunk::Image;
 
-/// Sides past this are the finder's to refuse; no pixels are looked for.
-const GREATEST_SIDE: u32 = 4_096;
-
 /// What is wrong with a picture.
 pub enum Damage {
     /// More than eight bits a pixel.
@@ -37,7 +34,8 @@ pub fn parse(file: &[u8]) -> Result<Image<'_>, Damage> {
         width: width as usize,
         height: height as usize,
     };
-    if width > GREATEST_SIDE || height > GREATEST_SIDE {
+    // The finder's to refuse; no pixels are looked for.
+    if width as usize > limits::SIDE || height as usize > limits::SIDE {
         return Ok(image(&[]));
     }
     // One white space stands before the pixels.

@@ -25,24 +25,18 @@ impl Room {
     };
 }
 
-pub const GREATEST_SIDE: u16 = 4_096;
-pub const GREATEST_WORKING: usize = 8_388_608;
-
 /// The lowest of 2 to 9 that applies, for a frame and room for so many working pixels.
 pub fn refusal(frame: &Frame, pixels: usize) -> Option<u32> {
     let (w, h) = frame.working();
     let fraction = frame.fraction();
     let input = frame.width as usize * frame.height as usize;
     let applies = [
-        (
-            2,
-            frame.width > GREATEST_SIDE || frame.height > GREATEST_SIDE,
-        ),
+        (2, frame.width.max(frame.height) as usize > limits::SIDE),
         (3, frame.pixels.len() != input),
-        (4, w * h > GREATEST_WORKING),
-        (5, frame.ray > 7),
-        (6, frame.blur > 3),
-        (7, frame.suppression > 32),
+        (4, w * h > limits::WORKING),
+        (5, u32::from(frame.ray) > limits::RAY),
+        (6, u32::from(frame.blur) > limits::BLUR),
+        (7, u32::from(frame.suppression) > limits::SUPPRESSION),
         // Not "outside 0 to 1": NaN must be refused, negative zero must not.
         (8, !(fraction >= 0.0 && fraction <= 1.0)),
         (9, w * h > pixels),

@@ -21,6 +21,6 @@ pub mod upsampled;
 pub use answers::{accepted, refusal, Room};
 pub use frame::{document_frame, split, Frame};
 pub use maker::{damaged, made, make, Made, Sizes};
-pub use outcome::{run, Detector, Found, Outcome};
+pub use outcome::{run, sums, Detector, Found, Outcome};
 pub use pictures::{Kind, KINDS};
 pub use printed::{list, printed, printed_by};

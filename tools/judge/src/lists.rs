@@ -327,65 +327,45 @@ const ACCEPTED_FRAMES: usize = 300;
 const FULL_FRAMES: usize = 16;
 const REFUSED_FRAMES: usize = 18;
 
+/// The file of document 01's frame after a change.
+fn changed(change: impl FnOnce(&mut Frame)) -> Vec<u8> {
+    let mut frame = document_frame();
+    change(&mut frame);
+    frame.bytes()
+}
+
 /// Files that are no frame at all, and frames at the ends of what the program takes.
 fn named_files() -> Vec<Vec<u8>> {
     let document = document_frame();
-    let wide = |width: u16, height: u16| {
-        Frame {
-            width,
-            height,
-            ..document_frame()
-        }
-        .bytes()
-    };
-    let threshold = |threshold: u32| {
-        Frame {
-            threshold,
-            ..document_frame()
-        }
-        .bytes()
-    };
+    let wide = |width, height| changed(|frame| (frame.width, frame.height) = (width, height));
+    let empty = |width| like_document(width, 0, vec![]).bytes();
+    let threshold = |threshold| changed(|frame| frame.threshold = threshold);
     let long = |count: usize| like_document(count as u16, 1, vec![7; count]).bytes();
+    let side = limits::SIDE as u16;
     let mut files: Vec<Vec<u8>> = named().iter().map(Frame::bytes).collect();
     files.extend([
         vec![],
         vec![1],
         document.bytes()[..19].to_vec(),
         document.bytes()[..20].to_vec(),
-        long(2_304),
-        long(2_305),
+        long(Room::PROGRAM.pixels),
+        long(Room::PROGRAM.pixels + 1),
         doubled(like_document(24, 24, vec![3; 576])).bytes(),
         doubled(like_document(24, 25, vec![3; 600])).bytes(),
         wide(65_535, 65_535),
         wide(65_535, 0),
-        wide(4_097, 0),
-        wide(4_096, 0),
-        like_document(4_096, 0, vec![]).bytes(),
-        like_document(4_097, 0, vec![]).bytes(),
+        wide(side + 1, 0),
+        wide(side, 0),
+        empty(side),
+        empty(side + 1),
     ]);
     files.extend([0x8000_0000, 0x3F80_0001, 0x8000_0001, 0x7FC0_0000].map(threshold));
     files.extend([0x7F80_0000, 0xFF80_0000, 0x7F80_0001, 0x0000_0001].map(threshold));
-    files.extend([7, 8, 255].map(|ray| {
-        Frame {
-            ray,
-            ..document_frame()
-        }
-        .bytes()
-    }));
-    files.extend([3, 4, 255].map(|blur| {
-        Frame {
-            blur,
-            ..document_frame()
-        }
-        .bytes()
-    }));
-    files.extend([32, 33, 255].map(|suppression| {
-        Frame {
-            suppression,
-            ..document_frame()
-        }
-        .bytes()
-    }));
+    let around = |most: u32| [most as u8, most as u8 + 1, 255];
+    files.extend(around(limits::RAY).map(|radius| changed(|frame| frame.ray = radius)));
+    files.extend(around(limits::BLUR).map(|radius| changed(|frame| frame.blur = radius)));
+    let suppressed = |radius| changed(|frame| frame.suppression = radius);
+    files.extend(around(limits::SUPPRESSION).map(suppressed));
     files
 }
 

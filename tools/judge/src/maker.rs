@@ -20,7 +20,7 @@ impl Sizes {
     /// For the program; a few frames are larger than it takes.
     pub const PROGRAM: Sizes = Sizes {
         room: Room::PROGRAM.pixels,
-        side: 4_096,
+        side: limits::SIDE,
         over: true,
     };
 
@@ -28,7 +28,7 @@ impl Sizes {
     pub fn within(room: usize) -> Self {
         Sizes {
             room,
-            side: 4_096,
+            side: limits::SIDE,
             over: false,
         }
     }
@@ -36,7 +36,7 @@ impl Sizes {
     /// Sides up to that many pixels, as far as document 01 takes them.
     pub fn up_to(side: usize) -> Self {
         Sizes {
-            room: 8_388_608,
+            room: limits::WORKING,
             side,
             over: false,
         }
@@ -117,11 +117,15 @@ const THRESHOLDS_OUT: [u32; 9] = [
 /// Each setting at and around its limits, now and then past them.
 fn limits(random: &mut Random) -> Frame {
     let mut frame = usual(random);
-    frame.ray = edge(random, frame.ray, &[0, 1, 6, 7], &[8, 9, 255]);
+    let most = limits::RAY as u8;
+    let (within, past) = ([0, 1, most - 1, most], [most + 1, most + 2, 255]);
+    frame.ray = edge(random, frame.ray, &within, &past);
     frame.upsampling = random.pick(&[0, 1, 2, 3, 4, 255]);
-    frame.blur = edge(random, frame.blur, &[0, 1, 2, 3], &[4, 255]);
-    let radii = [0, 1, 2, 7, 8, 16, 31, 32];
-    frame.suppression = edge(random, frame.suppression, &radii, &[33, 255]);
+    let most = limits::BLUR as u8;
+    frame.blur = edge(random, frame.blur, &[0, 1, 2, most], &[most + 1, 255]);
+    let most = limits::SUPPRESSION as u8;
+    let (within, past) = ([0, 1, 2, 7, 8, 16, most - 1, most], [most + 1, 255]);
+    frame.suppression = edge(random, frame.suppression, &within, &past);
     let counts = [0, 1, 2, 3, 7, 8, 9, 24, 80, 4_224, 4_225, 65_535];
     frame.least = edge(random, frame.least, &counts, &[]);
     frame.threshold = edge(random, frame.threshold, &THRESHOLDS, &THRESHOLDS_OUT);
@@ -143,8 +147,8 @@ fn sides(random: &mut Random, frame: &Frame, sizes: Sizes) -> (usize, usize) {
     let room = sizes.room / (factor * factor);
     let side = sizes.side;
     // The settings may be past their limits; the sizes need not follow them there.
-    let r = frame.radius().min(8);
-    let border = r + (frame.suppression as usize).min(33) + 1;
+    let r = frame.radius().min(limits::RAY as usize + 1);
+    let border = r + (frame.suppression as usize).min(limits::SUPPRESSION as usize + 1) + 1;
     let (w, h) = match random.below(100) {
         0..=72 => roomy(random, room, side),
         73..=81 => (
@@ -205,15 +209,16 @@ fn thin(random: &mut Random, room: usize, side: usize) -> (usize, usize) {
 
 /// A size that the pixels do not have, or one that is too great.
 fn misfit(random: &mut Random, frame: &mut Frame) {
+    let most = limits::SIDE as u16;
     match random.below(5) {
         0 => frame.pixels.push(0),
         1 => drop(frame.pixels.pop()),
         2 => frame.width = frame.width.wrapping_add(1),
         3 => {
-            (frame.width, frame.height) = (random.pick(&[4_097, 65_535]), 0);
+            (frame.width, frame.height) = (random.pick(&[most + 1, 65_535]), 0);
             frame.pixels.clear();
         }
-        _ => frame.height = random.pick(&[4_096, 4_097, 65_535]),
+        _ => frame.height = random.pick(&[most, most + 1, 65_535]),
     }
 }
 
@@ -224,8 +229,8 @@ pub fn damaged(seed: u64, index: u64) -> Vec<u8> {
     match random.below(16) {
         0 => file.truncate(random.below(2)),
         1 => file.truncate(random.range(18, 20)),
-        2 => return lengthened(random, 2_324),
-        3 => return lengthened(random, 2_325),
+        2 => return lengthened(random, Room::PROGRAM.bytes),
+        3 => return lengthened(random, Room::PROGRAM.bytes + 1),
         4 => file[0] = random.pick(&[0, 2, 3, 255]),
         5 => file[12] = random.pick(&[2, 3, 128, 255]),
         6 => restate(random, &mut file),

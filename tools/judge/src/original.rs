@@ -1,12 +1,10 @@
-//! Doors to the published Rust: its own functions, nothing added.
+//! Doors to the published Rust: its own functions and fields, nothing added.
 
-use crate::detect::radon::{self, detect, primitives, response};
+use crate::detect::radon::{detect, primitives, response};
 use crate::frame::Frame;
 
-/// The passes one by one, for the benchmark.
-pub use radon::opened::passes::Passes;
-
 pub use primitives::PeakFitMode;
+pub use response::opened::{blur, map, rays, upsample, view, Map};
 pub use response::{RadonBuffers, RadonDetectorParams, RadonResponseView};
 
 /// A frame's settings in the original's record, unclamped.
@@ -39,16 +37,6 @@ pub fn radon_response_u8<'a>(
     buffers: &'a mut RadonBuffers,
 ) -> RadonResponseView<'a> {
     response::radon_response_u8(image, w, h, params, buffers)
-}
-
-/// A view over any response and working image.
-pub fn view<'a>(data: &'a [f32], image: &'a [u8], w: usize, h: usize) -> RadonResponseView<'a> {
-    radon::view(data, image, w, h)
-}
-
-/// Response and working image of a view.
-pub fn parts<'a>(view: &RadonResponseView<'a>) -> (&'a [f32], &'a [u8]) {
-    radon::parts(view)
 }
 
 /// The list: x, y, strength of each corner.

@@ -1,10 +1,8 @@
 //! What the published Rust makes of an accepted frame.
 
-use std::str::FromStr;
-
 use crate::answers::refusal;
 use crate::frame::Frame;
-use crate::original::{self, RadonBuffers};
+use crate::original::{self, Map, RadonBuffers};
 
 /// Everything document 01 names, to the bit.
 #[derive(Clone, Debug, PartialEq)]
@@ -30,10 +28,7 @@ pub struct Detector {
 
 /// A frame's map and list; the slices are the detector's own.
 pub struct Found<'a> {
-    pub w: usize,
-    pub h: usize,
-    pub working: &'a [u8],
-    pub response: &'a [f32],
+    pub map: Map<'a>,
     pub corners: Vec<[f32; 3]>,
 }
 
@@ -50,12 +45,8 @@ impl Detector {
         let buffers = &mut self.buffers;
         let view = original::radon_response_u8(&frame.pixels, width, height, &params, buffers);
         let corners = original::detect_peaks_from_radon(&view, &params);
-        let (response, working) = original::parts(&view);
         Found {
-            w: view.width(),
-            h: view.height(),
-            working,
-            response,
+            map: original::map(&self.buffers),
             corners,
         }
     }
@@ -64,36 +55,24 @@ impl Detector {
 /// All that the original makes of an accepted frame, in fresh buffers.
 pub fn run(frame: &Frame) -> Outcome {
     let mut detector = Detector::new();
-    let found = detector.find(frame);
-    let (w, h, corners) = (found.w, found.h, found.corners);
-    let (working, response) = (found.working.to_vec(), found.response.to_vec());
-    // The tables are private and have no reader; their Debug text is exact.
-    let text = format!("{:?}", detector.buffers);
-    let blurred = frame.blur != 0 && w * h != 0;
+    let Found { map, corners } = detector.find(frame);
+    let blurred = frame.blur != 0 && !map.response.is_empty();
     Outcome {
-        w,
-        h,
-        working,
-        row: numbers(&text, "row_cumsum"),
-        col: numbers(&text, "col_cumsum"),
-        diag_pos: numbers(&text, "diag_pos_cumsum"),
-        diag_neg: numbers(&text, "diag_neg_cumsum"),
-        response,
-        scratch: blurred.then(|| numbers(&text, "blur_scratch")),
+        w: map.w,
+        h: map.h,
+        working: map.working.to_vec(),
+        row: sums(map.row),
+        col: sums(map.col),
+        diag_pos: sums(map.diag_pos),
+        diag_neg: sums(map.diag_neg),
+        response: map.response.to_vec(),
+        scratch: blurred.then(|| map.scratch.to_vec()),
         corners,
     }
 }
 
-/// The list that follows a field's name in a Debug text; Debug prints an f32 so that it reads back the same.
-fn numbers<T: FromStr>(text: &str, field: &str) -> Vec<T> {
-    let open = format!(" {field}: [");
-    let from = text.find(&open).expect("a field of the buffers") + open.len();
-    let upto = from + text[from..].find(']').expect("a closed list");
-    let list = &text[from..upto];
-    let number = |word: &str| word.parse().ok().expect("a number that fits");
-    if list.is_empty() {
-        Vec::new()
-    } else {
-        list.split(", ").map(number).collect()
-    }
+/// A table's sums, whatever type the original keeps them in.
+pub fn sums<T: Copy + TryInto<u32>>(table: &[T]) -> Vec<u32> {
+    let sum = |sum: &T| (*sum).try_into().ok().expect("a sum that fits");
+    table.iter().map(sum).collect()
 }

@@ -16,7 +16,7 @@ pub fn printed_by(detector: &mut Detector, file: &[u8], room: Room) -> Vec<u8> {
         Err(number) => format!("refused {number}\n").into_bytes(),
         Ok(frame) => {
             let found = detector.find(&frame);
-            list(found.w, found.h, &found.corners, room.corners).into_bytes()
+            list(found.map.w, found.map.h, &found.corners, room.corners).into_bytes()
         }
     }
 }

@@ -1,5 +1,7 @@
 //! Document 01's quarter-sum against the original's float upsampling, over the space of four pixels.
 
+use limits::SIDE;
+
 use crate::frame::Frame;
 use crate::outcome::Detector;
 
@@ -7,8 +9,6 @@ use crate::outcome::Detector;
 pub const PAIRS: usize = 65_536;
 /// Seven input rows: too few for ray 7, so that the original fills no response.
 const ROWS: usize = 7;
-/// The widest image that document 01 takes.
-const WIDTH: usize = 4_096;
 
 /// A ring in which each pair of bytes stands side by side once.
 pub fn ring() -> Vec<u8> {
@@ -51,7 +51,7 @@ pub fn differing(detector: &mut Detector, image: Vec<u8>, w: usize, h: usize) ->
     };
     let found = detector.find(&frame);
     let mut count = 0;
-    for (y, row) in found.working.chunks(2 * w.max(1)).enumerate() {
+    for (y, row) in found.map.working.chunks(2 * w.max(1)).enumerate() {
         for (x, value) in row.iter().enumerate() {
             count += usize::from(*value != ruled(&frame.pixels, w, h, (x, y)));
         }
@@ -83,9 +83,9 @@ pub fn sweep(steps: &[usize]) -> Swept {
             turn = (turn + step) % PAIRS;
             turns.push(turn);
         }
-        for from in (0..PAIRS).step_by(WIDTH - 1) {
+        for from in (0..PAIRS).step_by(SIDE - 1) {
             // One pixel more than there are pairs to cover.
-            let w = WIDTH.min(PAIRS - from + 1);
+            let w = SIDE.min(PAIRS - from + 1);
             let pixel = |turn: &usize, x: usize| ring[(from + x + turn) % PAIRS];
             let row = |turn| (0..w).map(move |x| pixel(turn, x));
             let image: Vec<u8> = turns.iter().flat_map(row).collect();

@@ -53,11 +53,11 @@ fn the_fast_path_is_the_whole_one() {
         let whole = run(&frame);
         let found = detector.find(&frame);
         assert_eq!(
-            (found.w, found.h, found.corners),
+            (found.map.w, found.map.h, found.corners),
             (whole.w, whole.h, whole.corners)
         );
         assert_eq!(
-            (found.working, found.response),
+            (found.map.working, found.map.response),
             (&whole.working[..], &whole.response[..])
         );
     }

@@ -4,9 +4,6 @@ use crate::lent::{self, Answer, Image, View};
 use crate::refusal::Refusal;
 use crate::settings::Settings;
 
-/// Sizes past these are refused by the library; nothing is allocated for them.
-const GREATEST_SIDE: usize = 4_096;
-const GREATEST_WORKING: usize = 8_388_608;
 /// Corners that a new list has room for; it grows when a frame has more.
 const FIRST_ROOM: usize = 1_024;
 
@@ -129,14 +126,14 @@ impl Buffers {
     }
 }
 
-/// Working pixels of an image whose sizes are taken; else 0, and the library says why not.
+/// Working pixels of an image whose sizes are taken; else 0: the library refuses it, and nothing is allocated.
 fn working_pixels(image: Image, factor: usize) -> usize {
     let (width, height) = (image.width, image.height);
-    if width > GREATEST_SIDE || height > GREATEST_SIDE || image.pixels.len() != width * height {
+    if width.max(height) > limits::SIDE || image.pixels.len() != width * height {
         return 0;
     }
     let pixels = width * height * factor * factor;
-    if pixels > GREATEST_WORKING {
+    if pixels > limits::WORKING {
         0
     } else {
         pixels

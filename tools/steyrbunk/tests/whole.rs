@@ -7,9 +7,8 @@ use compare::{Pair, BOUND};
 use judge::{Frame, Kind};
 use steyrbunk::{Finder, PeakFit, Settings};
 
-/// Holds a frame against the original; the tables too if asked, which takes seconds for the largest.
-fn agrees(pair: &mut Pair, frame: &Frame, tables: bool) -> usize {
-    pair.tables = tables;
+/// Holds a frame against the original.
+fn agrees(pair: &mut Pair, frame: &Frame) -> usize {
     let held = pair.hold(&frame.bytes());
     assert!(held.differences.is_empty(), "{held}");
     held.ours.expect("an accepted frame").corners.len()
@@ -28,7 +27,7 @@ fn every_radius(width: u16, height: u16, upsampling: u8) {
             suppression: [4, 1, 2, 8, 4, 0, 32, 6][ray as usize],
             ..board.clone()
         };
-        agrees(&mut pair, &settings, ray == 5);
+        agrees(&mut pair, &settings);
     }
 }
 
@@ -53,7 +52,7 @@ fn other_shapes() {
         (1_283, 957),
     ] {
         for kind in [Kind::Board45, Kind::Plateau, Kind::Random] {
-            agrees(&mut pair, &frame(kind, width, height), false);
+            agrees(&mut pair, &frame(kind, width, height));
         }
     }
 }
@@ -68,7 +67,7 @@ fn sides_of_none() {
                 blur,
                 ..frame(Kind::Flat, width, height)
             };
-            assert_eq!(agrees(&mut pair, &empty, true), 0);
+            assert_eq!(agrees(&mut pair, &empty), 0);
         }
     }
 }
@@ -84,7 +83,7 @@ fn a_long_list() {
         mode: 1,
         ..frame(Kind::Random, 500, 400)
     };
-    assert!(agrees(&mut pair, &noisy, true) > 10_000);
+    assert!(agrees(&mut pair, &noisy) > 10_000);
 }
 
 #[test]

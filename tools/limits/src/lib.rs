@@ -1,0 +1,12 @@
+//! Document 01's limits, said once for all tools. The C header says them for C; a test holds the two together.
+
+/// Input pixels along a side.
+pub const SIDE: usize = 4_096;
+/// The same after upsampling, by which the list's own entry goes.
+pub const WORKING_SIDE: usize = 2 * SIDE;
+/// Working pixels altogether.
+pub const WORKING: usize = 8_388_608;
+/// Radii in working pixels: of a ray, of the blur, of the window that a corner must win.
+pub const RAY: u32 = 7;
+pub const BLUR: u32 = 3;
+pub const SUPPRESSION: u32 = 32;
