@@ -34,7 +34,10 @@ fn limited(input: impl Read) -> io::Result<Option<Vec<u8>>> {
 fn opened(path: &Path) -> io::Result<File> {
     use std::os::unix::fs::OpenOptionsExt;
     const NONBLOCK: i32 = if cfg!(target_os = "linux") { 0o4000 } else { 4 };
-    OpenOptions::new().read(true).custom_flags(NONBLOCK).open(path)
+    OpenOptions::new()
+        .read(true)
+        .custom_flags(NONBLOCK)
+        .open(path)
 }
 
 #[cfg(not(unix))]

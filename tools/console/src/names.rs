@@ -15,7 +15,9 @@ pub fn shown(path: &Path) -> String {
 fn escaped(bytes: &[u8], plain: impl Fn(char) -> bool) -> String {
     let mut out = String::new();
     let hex = |out: &mut String, bytes: &[u8]| {
-        bytes.iter().for_each(|byte| out.push_str(&format!("\\x{byte:02x}")))
+        bytes
+            .iter()
+            .for_each(|byte| out.push_str(&format!("\\x{byte:02x}")))
     };
     for chunk in bytes.utf8_chunks() {
         for letter in chunk.valid().chars() {
@@ -42,7 +44,11 @@ pub fn shell(path: &Path) -> String {
     if !text.is_empty() && text.bytes().all(plain) && !text.starts_with('-') {
         return text;
     }
-    let text = if text.starts_with('-') { format!("./{text}") } else { text };
+    let text = if text.starts_with('-') {
+        format!("./{text}")
+    } else {
+        text
+    };
     format!("'{}'", text.replace('\'', "'\\''"))
 }
 

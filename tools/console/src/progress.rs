@@ -37,7 +37,11 @@ impl Progress {
             .total
             .map_or(String::new(), |total| format!(" of {total}"));
         let rate = done as f64 / self.seconds().max(1e-9);
-        let line = format!("{done}{of} frames, {rate:.0} a second{note}");
+        let left = self.total.map_or(String::new(), |total| {
+            let seconds = total.saturating_sub(done) as f64 / rate.max(1e-9);
+            format!(", {} left", duration(seconds))
+        });
+        let line = format!("{done}{of} frames, {rate:.0} a second{left}{note}");
         if self.terminal {
             eprint!("\r{line}\x1b[K");
             let _ = io::stderr().flush();
@@ -51,5 +55,15 @@ impl Progress {
         if self.terminal && self.shown.take().is_some() {
             eprint!("\r\x1b[K");
         }
+    }
+}
+
+/// A time as a person says it.
+fn duration(seconds: f64) -> String {
+    let seconds = seconds.round() as u64;
+    match (seconds / 3_600, seconds / 60 % 60, seconds % 60) {
+        (0, 0, seconds) => format!("{seconds} s"),
+        (0, minutes, seconds) => format!("{minutes} min {seconds} s"),
+        (hours, minutes, _) => format!("{hours} h {minutes} min"),
     }
 }

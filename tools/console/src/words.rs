@@ -65,9 +65,9 @@ impl Words {
                 self.joined = value.map(|value| (flag.to_string(), value.into()));
                 Ok(Some(Word::Flag(flag.to_string())))
             }
-            Some(word) if word.len() > 1 && word.starts_with('-') && !self.paths => {
-                Usage::wrong(format!("{word} is not known; a path that begins so goes after --"))
-            }
+            Some(word) if word.len() > 1 && word.starts_with('-') && !self.paths => Usage::wrong(
+                format!("{word} is not known; a path that begins so goes after --"),
+            ),
             _ => Ok(Some(Word::Path(word.into()))),
         }
     }

@@ -26,7 +26,8 @@ pub fn sha256(bytes: &[u8]) -> String {
     last.push(0x80);
     last.resize((rest.len() + 9).next_multiple_of(BLOCK) - 8, 0);
     last.extend((bytes.len() as u64 * 8).to_be_bytes());
-    last.chunks_exact(BLOCK).for_each(|block| turn(&mut state, block));
+    last.chunks_exact(BLOCK)
+        .for_each(|block| turn(&mut state, block));
     state.iter().map(|word| format!("{word:08x}")).collect()
 }
 
@@ -71,8 +72,14 @@ mod tests {
     #[test]
     fn published_digests() {
         let cases: [(&[u8], &str); 3] = [
-            (b"", "e3b0c44298fc1c149afbf4c8996fb92427ae41e4649b934ca495991b7852b855"),
-            (b"abc", "ba7816bf8f01cfea414140de5dae2223b00361a396177a9cb410ff61f20015ad"),
+            (
+                b"",
+                "e3b0c44298fc1c149afbf4c8996fb92427ae41e4649b934ca495991b7852b855",
+            ),
+            (
+                b"abc",
+                "ba7816bf8f01cfea414140de5dae2223b00361a396177a9cb410ff61f20015ad",
+            ),
             (
                 b"abcdbcdecdefdefgefghfghighijhijkijkljklmklmnlmnomnopnopq",
                 "248d6a61d20638b8e5c026930c3e6039a33ce45964ff2167f6ecedd419db06c1",

@@ -28,7 +28,11 @@ impl Frame {
     /// Where it is read from, as a whole path.
     pub fn whole_path(&self) -> Vec<u8> {
         let path = self.path.as_deref().unwrap_or(Path::new(INPUT));
-        let whole = if self.path.is_some() { absolute(path) } else { Ok(path.into()) };
+        let whole = if self.path.is_some() {
+            absolute(path)
+        } else {
+            Ok(path.into())
+        };
         let whole = whole.unwrap_or_else(|_| path.to_path_buf());
         whole.into_os_string().into_encoded_bytes()
     }
@@ -56,7 +60,10 @@ pub fn gather(paths: &[PathBuf], place: Option<&Place>) -> Result<Vec<Group>, Us
             Some(Place::Folder(folder)) => Some(folder.clone()),
             _ => None,
         };
-        groups.push(Group { folder, ..Group::default() });
+        groups.push(Group {
+            folder,
+            ..Group::default()
+        });
     }
     for path in paths {
         let found = look(path, paths.len() > 1)?;
@@ -81,7 +88,8 @@ impl Group {
     fn order(&mut self) {
         self.frames.sort_by(|a, b| a.name.cmp(&b.name));
         if self.folder.is_some() {
-            self.frames.dedup_by(|a, b| a.name == b.name && a.whole_path() == b.whole_path());
+            self.frames
+                .dedup_by(|a, b| a.name == b.name && a.whole_path() == b.whole_path());
         }
     }
 }
@@ -101,13 +109,21 @@ fn look(path: &Path, several: bool) -> Result<Group, Usage> {
     if !fs::metadata(path).is_ok_and(|data| data.is_dir()) {
         let name = path.file_name().map_or_else(|| path.into(), PathBuf::from);
         return Ok(Group {
-            frames: vec![Frame { path: Some(path.into()), shown: shown(path), name }],
+            frames: vec![Frame {
+                path: Some(path.into()),
+                shown: shown(path),
+                name,
+            }],
             ..Group::default()
         });
     }
     let found = console::inside(path, &ENDINGS);
     // Of several folders each has its own name in front, so that two cameras never share one.
-    let front = if several { own_name(path) } else { PathBuf::new() };
+    let front = if several {
+        own_name(path)
+    } else {
+        PathBuf::new()
+    };
     let frame = |file: PathBuf| Frame {
         shown: shown(&file),
         name: front.join(file.strip_prefix(path).unwrap_or(&file)),
@@ -123,7 +139,11 @@ fn look(path: &Path, several: bool) -> Result<Group, Usage> {
     }
     Ok(Group {
         folder: None,
-        below: found.folders.into_iter().filter(|folder| folder != path).collect(),
+        below: found
+            .folders
+            .into_iter()
+            .filter(|folder| folder != path)
+            .collect(),
         named: absolute(path).into_iter().collect(),
         frames: found.files.into_iter().map(frame).collect(),
         problems,
@@ -142,12 +162,17 @@ fn beside(groups: &mut Vec<Group>, path: &Path, mut found: Group) -> Result<(), 
         return Usage::wrong("standard input has no place beside it; try --out");
     }
     let folder = if found.named.is_empty() {
-        let parent = path.parent().filter(|parent| !parent.as_os_str().is_empty());
+        let parent = path
+            .parent()
+            .filter(|parent| !parent.as_os_str().is_empty());
         parent.unwrap_or(Path::new(".")).to_path_buf()
     } else {
         // Names below the folder itself: it has its own manifest.
         for frame in &mut found.frames {
-            let below = frame.path.as_deref().and_then(|file| file.strip_prefix(path).ok());
+            let below = frame
+                .path
+                .as_deref()
+                .and_then(|file| file.strip_prefix(path).ok());
             frame.name = below.map_or_else(PathBuf::new, Path::to_path_buf);
         }
         path.to_path_buf()
@@ -156,13 +181,19 @@ fn beside(groups: &mut Vec<Group>, path: &Path, mut found: Group) -> Result<(), 
         (Ok(a), Ok(b)) => a == b,
         _ => a == b,
     };
-    let at = groups
-        .iter()
-        .position(|group| group.folder.as_deref().is_some_and(|other| same(other, &folder)));
+    let at = groups.iter().position(|group| {
+        group
+            .folder
+            .as_deref()
+            .is_some_and(|other| same(other, &folder))
+    });
     let group = match at {
         Some(at) => &mut groups[at],
         None => {
-            groups.push(Group { folder: Some(folder), ..Group::default() });
+            groups.push(Group {
+                folder: Some(folder),
+                ..Group::default()
+            });
             groups.last_mut().expect("it was just put there")
         }
     };

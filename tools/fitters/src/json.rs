@@ -73,7 +73,9 @@ impl Reader<'_> {
         }
         match self.next()? {
             b'"' => self.string().map(Json::Text),
-            b'[' => self.inside(b']', |reader| reader.value(depth + 1)).map(Json::List),
+            b'[' => self
+                .inside(b']', |reader| reader.value(depth + 1))
+                .map(Json::List),
             b'{' => self
                 .inside(b'}', |reader| {
                     reader.space();
@@ -179,18 +181,44 @@ mod tests {
 
     #[test]
     fn names_come_back() {
-        let names: [&[u8]; 6] = [b"", b"a/b.pgm", b"\"\\\n\x1b[2J", b"\xff\x80x", "ä\u{2028}\u{1f600}".as_bytes(), b"\x7f"];
+        let names: [&[u8]; 6] = [
+            b"",
+            b"a/b.pgm",
+            b"\"\\\n\x1b[2J",
+            b"\xff\x80x",
+            "ä\u{2028}\u{1f600}".as_bytes(),
+            b"\x7f",
+        ];
         for name in names {
             let text = console::json(name);
-            assert_eq!(Json::parse(text.as_bytes()), Some(Json::Text(name.to_vec())), "{text}");
+            assert_eq!(
+                Json::parse(text.as_bytes()),
+                Some(Json::Text(name.to_vec())),
+                "{text}"
+            );
         }
     }
 
     #[test]
     fn nonsense_is_nothing() {
         let deep = "[".repeat(100_000);
-        for text in ["", "{", "[1,]", "{\"a\"}", "\"", "\"\\u12\"", "\"\\ud800\"", "[1] 2", deep.as_str()] {
-            assert_eq!(Json::parse(text.as_bytes()), None, "{}", &text[..text.len().min(9)]);
+        for text in [
+            "",
+            "{",
+            "[1,]",
+            "{\"a\"}",
+            "\"",
+            "\"\\u12\"",
+            "\"\\ud800\"",
+            "[1] 2",
+            deep.as_str(),
+        ] {
+            assert_eq!(
+                Json::parse(text.as_bytes()),
+                None,
+                "{}",
+                &text[..text.len().min(9)]
+            );
         }
     }
 }

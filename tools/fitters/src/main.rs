@@ -82,7 +82,10 @@ impl Run<'_> {
         let planned: Vec<Planned> = group
             .frames
             .iter()
-            .map(|frame| Planned { frame, results: Ok(Vec::new()) })
+            .map(|frame| Planned {
+                frame,
+                results: Ok(Vec::new()),
+            })
             .collect();
         say(self.options.format.head());
         let mut frames = group.frames.iter();
@@ -97,7 +100,10 @@ impl Run<'_> {
         let planned: Vec<Planned> = group
             .frames
             .iter()
-            .map(|frame| Planned { frame, results: self.results(frame, site) })
+            .map(|frame| Planned {
+                frame,
+                results: self.results(frame, site),
+            })
             .collect();
         let rows: Vec<(Vec<u8>, Vec<u8>, &[PathBuf])> = planned
             .iter()
@@ -107,7 +113,9 @@ impl Run<'_> {
                 (name, planned.frame.whole_path(), files)
             })
             .collect();
-        let rows = rows.iter().map(|(name, path, files)| (&name[..], &path[..], *files));
+        let rows = rows
+            .iter()
+            .map(|(name, path, files)| (&name[..], &path[..], *files));
         site.plan(&record::plan(rows))?;
         let mut records = self.gone(group, site);
         let mut frames = group.frames.iter();
@@ -164,11 +172,22 @@ impl Run<'_> {
     }
 
     /// Gives the results their names, and writes the manifest last.
-    fn finish(&mut self, group: &Group, site: &Site, mut records: Vec<Record>) -> std::io::Result<()> {
+    fn finish(
+        &mut self,
+        group: &Group,
+        site: &Site,
+        mut records: Vec<Record>,
+    ) -> std::io::Result<()> {
         for record in &mut records {
-            let named = record.results.iter().try_for_each(|result| site.name(result));
+            let named = record
+                .results
+                .iter()
+                .try_for_each(|result| site.name(result));
             if let Err(error) = named {
-                record.results.iter().for_each(|result| site.unwrite(result));
+                record
+                    .results
+                    .iter()
+                    .for_each(|result| site.unwrite(result));
                 record.results.clear();
                 self.failed += 1;
                 self.tell(&error.to_string());
@@ -176,7 +195,10 @@ impl Run<'_> {
             }
         }
         records.sort_by(|a, b| a.name.cmp(&b.name));
-        let results: Vec<PathBuf> = records.iter().flat_map(|record| record.results.clone()).collect();
+        let results: Vec<PathBuf> = records
+            .iter()
+            .flat_map(|record| record.results.clone())
+            .collect();
         let Options { named, replace, .. } = self.options;
         let settings = named.over(Settings::default());
         let records: Vec<&Record> = records.iter().collect();
@@ -226,7 +248,9 @@ fn find(options: &Options) -> Result<ExitCode, Usage> {
             None => run.print(group),
             Some(site) => {
                 if let Err(error) = run.write(group, site) {
-                    run.fail(&format!("{error}; there is no run.json, and no list counts"));
+                    run.fail(&format!(
+                        "{error}; there is no run.json, and no list counts"
+                    ));
                 }
             }
         }
@@ -242,13 +266,17 @@ fn main() -> ExitCode {
     let name = env::args().next().unwrap_or_default();
     let name = Path::new(&name)
         .file_name()
-        .map_or("steyrbunk".into(), |name| name.to_string_lossy().into_owned());
-    console::run(&name, &options::help(), |words| match options::call(words)? {
-        Call::Find(options) => find(&options),
-        Call::Frame(call) => frame_file::write(&call),
-        Call::Version => {
-            say(&format!("steyrbunk {}\n", env!("CARGO_PKG_VERSION")));
-            Ok(ExitCode::SUCCESS)
+        .map_or("steyrbunk".into(), |name| {
+            name.to_string_lossy().into_owned()
+        });
+    console::run(&name, &options::help(), |words| {
+        match options::call(words)? {
+            Call::Find(options) => find(&options),
+            Call::Frame(call) => frame_file::write(&call),
+            Call::Version => {
+                say(&format!("steyrbunk {}\n", env!("CARGO_PKG_VERSION")));
+                Ok(ExitCode::SUCCESS)
+            }
         }
     })
 }

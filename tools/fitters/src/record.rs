@@ -29,7 +29,11 @@ pub struct Read {
 
 /// How it ended.
 pub enum End {
-    Found { width: usize, height: usize, count: usize },
+    Found {
+        width: usize,
+        height: usize,
+        count: usize,
+    },
     Problem(Problem),
     /// The run before had it, and it is not there any more.
     Gone,
@@ -54,7 +58,9 @@ impl Record {
         let (answer, words) = match &self.end {
             End::Found { .. } => ("0".to_string(), "accepted, all corners listed".to_string()),
             End::Problem(problem) => (
-                problem.refusal().map_or("null".to_string(), |refusal| refusal.number().to_string()),
+                problem
+                    .refusal()
+                    .map_or("null".to_string(), |refusal| refusal.number().to_string()),
                 problem.to_string(),
             ),
             End::Gone => ("null".to_string(), GONE.to_string()),
@@ -62,7 +68,9 @@ impl Record {
         fields.push(format!("\"answer\":{answer}"));
         fields.push(format!("\"words\":{}", json(words.as_bytes())));
         if let End::Found { width, height, .. } = &self.end {
-            fields.push(format!("\"working_width\":{width},\"working_height\":{height}"));
+            fields.push(format!(
+                "\"working_width\":{width},\"working_height\":{height}"
+            ));
         }
         let count = match self.end {
             End::Found { count, .. } => count,
@@ -79,7 +87,13 @@ impl Record {
 }
 
 /// The manifest of a run: a line a frame.
-pub fn manifest(started: SystemTime, named: &Settings, replaced: bool, problems: &[String], records: &[&Record]) -> String {
+pub fn manifest(
+    started: SystemTime,
+    named: &Settings,
+    replaced: bool,
+    problems: &[String],
+    records: &[&Record],
+) -> String {
     let problems: Vec<String> = problems.iter().map(|text| json(text.as_bytes())).collect();
     let frames: Vec<String> = records.iter().map(|record| record.json()).collect();
     format!(
@@ -97,7 +111,12 @@ pub fn manifest(started: SystemTime, named: &Settings, replaced: bool, problems:
 pub fn plan<'a>(frames: impl Iterator<Item = (&'a [u8], &'a [u8], &'a [PathBuf])>) -> String {
     let frames: Vec<String> = frames
         .map(|(name, path, files)| {
-            format!("{{\"name\":{},\"path\":{},\"results\":{}}}", json(name), json(path), results(files))
+            format!(
+                "{{\"name\":{},\"path\":{},\"results\":{}}}",
+                json(name),
+                json(path),
+                results(files)
+            )
         })
         .collect();
     format!(
@@ -133,7 +152,10 @@ fn settings(of: &Settings) -> String {
 
 /// The time in Greenwich, to the second.
 fn instant(time: SystemTime) -> String {
-    let seconds = time.duration_since(UNIX_EPOCH).unwrap_or_default().as_secs();
+    let seconds = time
+        .duration_since(UNIX_EPOCH)
+        .unwrap_or_default()
+        .as_secs();
     let (days, rest) = (seconds / 86_400, seconds % 86_400);
     // Years counted from March, in the 400 years that repeat.
     let shifted = days + 719_468;

@@ -176,10 +176,17 @@ fn read(path: &Path) -> io::Result<Option<Json>> {
 fn remove(folder: &Path, plan: &Path, json: &Json) -> io::Result<Vec<Earlier>> {
     let mut frames = Vec::new();
     for frame in json.get("frames").map_or(&[][..], Json::list) {
-        let text = |name| frame.get(name).and_then(Json::text).unwrap_or_default().to_vec();
+        let text = |name| {
+            frame
+                .get(name)
+                .and_then(Json::text)
+                .unwrap_or_default()
+                .to_vec()
+        };
         for result in frame.get("results").map_or(&[][..], Json::list) {
             let result = result.text().and_then(inner).ok_or_else(|| {
-                let text = "names a result that is not inside its folder; nothing was removed for it";
+                let text =
+                    "names a result that is not inside its folder; nothing was removed for it";
                 named(plan, io::Error::new(ErrorKind::InvalidData, text))
             })?;
             let path = folder.join(result);
@@ -191,7 +198,10 @@ fn remove(folder: &Path, plan: &Path, json: &Json) -> io::Result<Vec<Earlier>> {
             }
         }
         if frame.get("gone").is_none() {
-            frames.push(Earlier { name: text("name"), path: text("path") });
+            frames.push(Earlier {
+                name: text("name"),
+                path: text("path"),
+            });
         }
     }
     fs::remove_file(plan).map_err(|error| named(plan, error))?;

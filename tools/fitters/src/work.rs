@@ -33,17 +33,28 @@ pub struct Planned<'a> {
 }
 
 /// Takes up all frames; `tell` hears of each in their order.
-pub fn work(options: &Options, site: Option<&Site>, planned: &[Planned], mut tell: impl FnMut(Done)) {
+pub fn work(
+    options: &Options,
+    site: Option<&Site>,
+    planned: &[Planned],
+    mut tell: impl FnMut(Done),
+) {
     let next = AtomicUsize::new(0);
     let (sender, receiver) = mpsc::channel();
     thread::scope(|scope| {
         for _ in 0..options.jobs.clamp(1, planned.len().max(1)) {
             let (sender, next) = (sender.clone(), &next);
             scope.spawn(move || {
-                let mut worker = Worker { options, site, finder: Finder::new() };
+                let mut worker = Worker {
+                    options,
+                    site,
+                    finder: Finder::new(),
+                };
                 loop {
                     let at = next.fetch_add(1, Ordering::Relaxed);
-                    let Some(planned) = planned.get(at) else { break };
+                    let Some(planned) = planned.get(at) else {
+                        break;
+                    };
                     if sender.send((at, worker.take_up(planned))).is_err() {
                         break;
                     }
@@ -88,11 +99,18 @@ impl Worker<'_> {
         done.record.end = match self.outcome(planned, &mut done) {
             Ok(found) => {
                 done.text = format.list(&frame.shown, &found);
-                End::Found { width: found.width, height: found.height, count: found.corners.len() }
+                End::Found {
+                    width: found.width,
+                    height: found.height,
+                    count: found.corners.len(),
+                }
             }
             Err(problem) => {
                 if let Some(site) = self.site {
-                    done.record.results.iter().for_each(|result| site.unwrite(result));
+                    done.record
+                        .results
+                        .iter()
+                        .for_each(|result| site.unwrite(result));
                     done.record.results.clear();
                 }
                 done.notes.push(problem.to_string());
@@ -106,7 +124,10 @@ impl Worker<'_> {
 
     /// Reads, finds, draws and writes.
     fn outcome(&mut self, planned: &Planned, done: &mut Done) -> Result<Found, Problem> {
-        let results = planned.results.as_ref().map_err(|text| Problem::Damaged(text.clone()))?;
+        let results = planned
+            .results
+            .as_ref()
+            .map_err(|text| Problem::Damaged(text.clone()))?;
         let Options { named, replace, .. } = self.options;
         let path = planned.frame.path.as_deref();
         let file = match path {
@@ -115,9 +136,15 @@ impl Worker<'_> {
         };
         let own = frames::kind(&file) == Kind::Frame;
         if own && !*replace && *named != Named::default() {
-            done.notes.push("note: a frame file has its own settings; --override replaces them".to_string());
+            done.notes.push(
+                "note: a frame file has its own settings; --override replaces them".to_string(),
+            );
         }
-        let read = Read { bytes: file.len(), sha256: sha256(&file), settings: None };
+        let read = Read {
+            bytes: file.len(),
+            sha256: sha256(&file),
+            settings: None,
+        };
         let read = done.record.read.insert(read);
         let frame = frames::open(path.unwrap_or("stdin".as_ref()), &file, named, *replace)?;
         read.settings = own.then_some(frame.settings);
@@ -132,7 +159,8 @@ impl Worker<'_> {
             let text = format.head().to_string() + &format.list(&planned.frame.shown, &found);
             written(done, &results[0], text.as_bytes())?;
             if frame.image.pixels.is_empty() && !self.options.drawings.is_empty() {
-                done.notes.push("nothing to draw: the picture has no pixels".to_string());
+                done.notes
+                    .push("nothing to draw: the picture has no pixels".to_string());
                 return Ok(found);
             }
             for (drawing, result) in self.options.drawings.iter().zip(&results[1..]) {

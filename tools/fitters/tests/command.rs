@@ -22,8 +22,6 @@ const SETTINGS: [&str; 12] = [
     "--min-cluster-size",
     "2",
 ];
-const ENDINGS: [&str; 5] = ["corners", "csv", "json", "svg", "png"];
-
 /// An empty folder for one test.
 fn folder(name: &str) -> PathBuf {
     let folder = Path::new(env!("CARGO_TARGET_TMPDIR")).join(name);
@@ -69,14 +67,6 @@ fn refused() -> Vec<u8> {
         ..document_frame()
     }
     .bytes()
-}
-
-/// Results of every kind that an earlier run might have left for a frame, half written ones among them.
-fn leave_old(folder: &Path, frame: &str) {
-    for ending in ENDINGS {
-        fs::write(folder.join(format!("{frame}.{ending}")), "yesterday").unwrap();
-        fs::write(folder.join(format!("{frame}.{ending}.new")), "yesterday").unwrap();
-    }
 }
 
 /// The names in a folder that begin with a frame's, its own not among them.
@@ -147,46 +137,69 @@ fn a_refusal_leaves_nothing_old() {
     let folder = folder("refusal");
     let (frames, lists) = (folder.join("frames"), folder.join("lists"));
     fs::create_dir_all(&frames).unwrap();
-    fs::create_dir_all(&lists).unwrap();
-    fs::write(frames.join("good.frame"), document_frame().bytes()).unwrap();
+    let names = ["good.frame", "refused.frame", "damaged.pgm", "missing.pgm"];
+    for name in names {
+        fs::write(frames.join(name), document_frame().bytes()).unwrap();
+    }
+    let words = ["--out", "lists", "frames", "--draw", "svg"];
+    assert_eq!(status(&run(&folder, &words)), 0);
+    assert_eq!(fs::read_dir(&lists).unwrap().count(), 9);
     fs::write(frames.join("refused.frame"), refused()).unwrap();
     fs::write(frames.join("damaged.pgm"), b"P5 9 9 255 ").unwrap();
-    for name in ["good.frame", "refused.frame", "damaged.pgm", "missing.pgm"] {
-        leave_old(&lists, name);
-    }
-    let output = run(&folder, &["--out", "lists", "frames", "missing.pgm"]);
+    fs::remove_file(frames.join("missing.pgm")).unwrap();
+    let output = run(&folder, &["--out", "lists", "frames"]);
     assert_eq!((out(&output).as_str(), status(&output)), ("", 1));
     assert_eq!(results(&lists, "good.frame"), ["good.frame.corners"]);
     assert_eq!(
         fs::read_to_string(lists.join("good.frame.corners")).unwrap(),
         DOCUMENT
     );
-    for name in ["refused.frame", "damaged.pgm", "missing.pgm"] {
+    for name in &names[1..] {
         assert!(results(&lists, name).is_empty(), "{name}");
         assert!(error(&output).contains(&format!("{name}: ")), "{name}");
     }
     assert!(error(&output).contains("refused 5: the ray radius is over 7"));
+    assert!(error(&output).contains("missing.pgm: gone"));
     assert!(error(&output).contains("4 frames, 3 without a list"));
 }
 
+/// Two cameras in one folder: the results lie in the same subfolders as the frames.
 #[test]
-fn beside_the_frame() {
+fn beside_the_frame_and_in_a_folder() {
     let folder = folder("beside");
-    fs::create_dir_all(folder.join("2024")).unwrap();
-    fs::create_dir_all(folder.join("2025")).unwrap();
     for year in ["2024", "2025"] {
-        fs::write(
-            folder.join(year).join("dawn.frame"),
-            document_frame().bytes(),
-        )
-        .unwrap();
+        fs::create_dir_all(folder.join(year)).unwrap();
+        let frame = folder.join(year).join("dawn.frame");
+        fs::write(frame, document_frame().bytes()).unwrap();
     }
-    let output = run(&folder, &["--out", "lists", "."]);
+    for (words, lists) in [
+        (
+            ["--out", "lists", "2024", "2025"],
+            ["lists/2024", "lists/2025"],
+        ),
+        (
+            ["--out", "lists", ".", "--quiet"],
+            ["lists/2024", "lists/2025"],
+        ),
+        (["--out", "one", "2024", "--quiet"], ["one", "one"]),
+    ] {
+        assert_eq!(status(&run(&folder, &words)), 0);
+        for list in lists {
+            assert_eq!(
+                results(&folder.join(list), "dawn.frame"),
+                ["dawn.frame.corners"]
+            );
+        }
+    }
+    let output = run(
+        &folder,
+        &["--out", "lists", "2024/dawn.frame", "2025/dawn.frame"],
+    );
     assert_eq!(status(&output), 2, "two frames for one list");
     assert!(error(&output).contains("would both write"));
     let output = run(
         &folder,
-        &["--beside", "--draw", "svg", "--draw", "png", "."],
+        &["--beside", "--draw", "svg", "--draw", "png", "2024", "2025"],
     );
     assert_eq!(status(&output), 0);
     for year in ["2024", "2025"] {
@@ -195,21 +208,8 @@ fn beside_the_frame() {
             names,
             ["dawn.frame.corners", "dawn.frame.png", "dawn.frame.svg"]
         );
+        assert!(folder.join(year).join("run.json").exists());
     }
-}
-
-/// A result that cannot be removed or written is said, and counts.
-#[test]
-fn a_place_that_is_taken() {
-    let folder = folder("taken");
-    fs::write(folder.join("a.frame"), document_frame().bytes()).unwrap();
-    leave_old(&folder, "a.frame");
-    fs::remove_file(folder.join("a.frame.csv")).unwrap();
-    fs::create_dir_all(folder.join("a.frame.csv")).unwrap();
-    let output = run(&folder, &["--beside", "a.frame"]);
-    assert_eq!(status(&output), 1);
-    assert!(error(&output).contains("a.frame.csv"));
-    assert_eq!(results(&folder, "a.frame"), ["a.frame.csv"]);
 }
 
 #[test]
@@ -233,7 +233,10 @@ fn damaged_pictures() {
         (b"P5 1 1 255\n12", "1 bytes follow"),
         (b"P5 0 7 255\n", "no picture: 0 by 7"),
         (b"P5 7 0 255\n", "no picture: 7 by 0"),
-        (b"P5 7 7 65535\n", "16-bit PGM"),
+        (
+            b"P5 7 7 65535\n",
+            "a 16-bit PGM (greatest value 65535): only 8-bit grey PGM",
+        ),
         (b"P5 7 7 0\n", "greatest value of 0"),
         (b"P5 1 1 9\nx", "a pixel of 120 above"),
         (
@@ -254,8 +257,119 @@ fn damaged_pictures() {
         );
         assert_eq!(status(&output), 1);
     }
-    fs::write(folder.join("plain.pgm"), b"P2 1 1 255 7").unwrap();
-    assert!(error(&run(&folder, &["plain.pgm"])).contains("plain.pgm: P2 is not taken"));
+    let others: [(&[u8], &str); 9] = [
+        (b"\x89PNG\r\n\x1a\n", "a PNG picture"),
+        (b"\xff\xd8\xff\xe0", "a JPEG picture"),
+        (b"II*\0", "a TIFF picture"),
+        (b"MM\0*", "a TIFF picture"),
+        (b"BM1234", "a BMP picture"),
+        (b"P2 1 1 255 7", "a plain PGM (P2)"),
+        (b"P6 1 1 255 777", "a colour picture (P6)"),
+        (b"GIF89a", "a GIF picture"),
+        (b"P4 1 1 7", "a bitmap (P4)"),
+    ];
+    for (content, kind) in others {
+        fs::write(folder.join("its 1.pgm"), content).unwrap();
+        let text = error(&run(&folder, &["its 1.pgm"]));
+        assert!(
+            text.starts_with(&format!("its 1.pgm: {kind}: only 8-bit grey")),
+            "{text}"
+        );
+        let line = "convert 'its 1.pgm' -colorspace Gray -depth 8 'its 1.8bit.pgm'";
+        assert!(text.contains(line), "{text}");
+    }
+    fs::write(folder.join("strange"), [7; 100]).unwrap();
+    let text = error(&run(&folder, &["strange"]));
+    assert!(text.contains("refused 12: ") && text.contains("of no picture that is known"));
+}
+
+/// Pictures that other programs write: comments anywhere in the opening, one line feed behind the pixels.
+#[test]
+fn openings_and_ends() {
+    let folder = folder("openings");
+    let pixels = document_frame().pixels;
+    for (at, (head, tail)) in [
+        ("P5 7 7 255\n", ""),
+        ("P5\n# made at dawn\n7 # wide\n7\n# most\n255\n", ""),
+        ("P5 7 7 255 # grey\n", ""),
+        ("P5 7 7 255\n# by a camera\n", ""),
+        ("P5 7 7 255\n", "\n"),
+        ("P5 7 7 255 # grey\n", "\n"),
+    ]
+    .into_iter()
+    .enumerate()
+    {
+        let file = [head.as_bytes(), &pixels, tail.as_bytes()].concat();
+        fs::write(folder.join("a.pgm"), file).unwrap();
+        let output = run(&folder, &[&SETTINGS[..], &["a.pgm"]].concat());
+        assert_eq!(
+            (out(&output).as_str(), error(&output).as_str()),
+            (DOCUMENT, ""),
+            "{at}"
+        );
+    }
+    // A pixel that looks like a comment's sign is a pixel.
+    fs::write(folder.join("hash.pgm"), b"P5 3 1 255\n#\n#").unwrap();
+    assert_eq!(out(&run(&folder, &["hash.pgm"])), "6 2 0\n");
+}
+
+/// A large frame that would do without doubling is told so.
+#[test]
+fn advice_for_large_frames() {
+    let folder = folder("large");
+    let picture = |width: usize, height: usize| {
+        let head = format!("P5 {width} {height} 255\n");
+        [head.as_bytes(), &vec![0; width * height]].concat()
+    };
+    fs::write(folder.join("a.pgm"), picture(2048, 2048)).unwrap();
+    let output = run(&folder, &["a.pgm"]);
+    let advice = "refused 4: there are over 8,388,608 working pixels; --image-upsample 1 would do";
+    assert!(error(&output).contains(advice), "{}", error(&output));
+    let output = run(&folder, &["--image-upsample=1", "a.pgm"]);
+    assert_eq!(
+        (out(&output).as_str(), status(&output)),
+        ("2048 2048 0\n", 0)
+    );
+    fs::write(folder.join("b.pgm"), picture(4096, 2049)).unwrap();
+    let output = run(&folder, &["b.pgm"]);
+    assert!(error(&output).contains("refused 4") && !error(&output).contains("would do"));
+}
+
+/// The frame file of a picture is the one that the program and the Rust read.
+#[test]
+fn frame_files_of_pictures() {
+    let folder = folder("made");
+    fs::write(folder.join("a.pgm"), pgm(&document_frame())).unwrap();
+    let threshold = ["--threshold-rel", "0.28", "a.pgm"];
+    let output = run(&folder, &[&["frame"][..], &SETTINGS, &threshold].concat());
+    assert_eq!(
+        (output.stdout.clone(), error(&output)),
+        (document_frame().bytes(), String::new())
+    );
+    fs::write(folder.join("a.frame"), &output.stdout).unwrap();
+    assert_eq!(out(&run(&folder, &["a.frame"])), DOCUMENT);
+    let output = run(&folder, &["frame", "a.frame"]);
+    assert_eq!((status(&output), output.stdout.len()), (1, 0));
+    assert!(error(&output).contains("a.frame: is a frame file already"));
+    let picture = |width: usize, height: usize| {
+        let head = format!("P5 {width} {height} 255\n");
+        [head.as_bytes(), &vec![0; width * height]].concat()
+    };
+    fs::write(folder.join("wide.pgm"), picture(60, 39)).unwrap();
+    let output = run(&folder, &["frame", "wide.pgm"]);
+    assert!(error(&output).contains("2360 bytes: the program `corners` has room for 2324"));
+    assert_eq!(output.stdout.len(), 2360);
+    fs::write(folder.join("small.pgm"), picture(30, 30)).unwrap();
+    assert!(error(&run(&folder, &["frame", "small.pgm"])).contains("3600 working pixels"));
+    let output = run(&folder, &["frame", "--ray-radius", "256", "small.pgm"]);
+    assert!(error(&output).contains("no room for such sizes or settings"));
+    for words in [
+        &["frame"][..],
+        &["frame", "a", "b"],
+        &["frame", "--out", "x", "a"],
+    ] {
+        assert_eq!(status(&run(&folder, words)), 2, "{words:?}");
+    }
 }
 
 #[test]
@@ -268,9 +382,7 @@ fn files_without_end() {
         (out(&output).as_str(), status(&output)),
         ("refused 10\n", 1)
     );
-    if Path::new("/dev/zero").exists() {
-        assert!(error(&run(&folder, &["/dev/zero"])).contains("/dev/zero: refused 10"));
-    }
+    assert!(error(&run(&folder, &["/dev/zero"])).contains("/dev/zero: not a regular file"));
     fs::create_dir_all(folder.join("empty")).unwrap();
     let output = run(&folder, &["empty"]);
     assert_eq!(status(&output), 1);
@@ -439,6 +551,13 @@ fn help_and_wrong_words() {
         &["--draw", "svg", "a"],
         &["--draw", "gif", "--beside", "a"],
         &["--out", "x", "--beside", "a"],
+        &["--image-upsample", "5", "a"],
+        &["--image-upsample", "0", "a"],
+        &["--image-upsample=2.0", "a"],
+        &["--quiet=yes", "a"],
+        &["--jobs", "0", "a"],
+        &["-x", "a"],
+        &["--beside", "-"],
     ] {
         let output = run(&folder, words);
         assert_eq!(
@@ -448,6 +567,11 @@ fn help_and_wrong_words() {
         );
         assert!(error(&output).contains("--help"), "{words:?}");
     }
+    let version = run(&folder, &["--version"]);
+    assert_eq!(
+        out(&version),
+        format!("steyrbunk {}\n", env!("CARGO_PKG_VERSION"))
+    );
     // After `--` a name may begin with two dashes.
     fs::write(folder.join("--odd.frame"), document_frame().bytes()).unwrap();
     assert_eq!(out(&run(&folder, &["--", "--odd.frame"])), DOCUMENT);

@@ -23,7 +23,11 @@ pub fn parse(file: &[u8]) -> Result<Image<'_>, Damage> {
     let most = number(file, &mut at, "greatest value")?;
     match most {
         1..=255 => {}
-        256..=65_535 => return Err(Damage::Deep(format!("a 16-bit PGM (greatest value {most})"))),
+        256..=65_535 => {
+            return Err(Damage::Deep(format!(
+                "a 16-bit PGM (greatest value {most})"
+            )))
+        }
         _ => return Err(format!("a greatest value of {most}").into()),
     }
     if width == 0 || height == 0 {
@@ -68,7 +72,10 @@ fn whole(rest: &[u8], needed: usize) -> Option<&[u8]> {
 /// What follows a comment behind the greatest value. A pixel may look like its sign, so that only the length tells.
 fn after_comment(rest: &[u8]) -> Option<&[u8]> {
     let text = rest.trim_ascii_start();
-    let end = text.strip_prefix(b"#")?.iter().position(|byte| *byte == b'\n')?;
+    let end = text
+        .strip_prefix(b"#")?
+        .iter()
+        .position(|byte| *byte == b'\n')?;
     Some(&text[end + 2..])
 }
 
@@ -76,7 +83,10 @@ fn wrong_length(width: u32, height: u32, needed: usize, there: usize) -> Damage 
     let text = if there < needed {
         format!("cut off: {width} by {height} pixels need {needed} bytes, {there} are there")
     } else {
-        format!("{} bytes follow the {width} by {height} pixels", there - needed)
+        format!(
+            "{} bytes follow the {width} by {height} pixels",
+            there - needed
+        )
     };
     text.into()
 }

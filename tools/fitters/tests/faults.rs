@@ -1,0 +1,657 @@
+//! The command under faults: killed, starved, shut out, and two at a time. After each, no list may be there that nothing owns.
+
+#![cfg(unix)]
+
+use std::collections::{BTreeMap, BTreeSet};
+use std::ffi::OsStr;
+use std::fs;
+use std::io::Write;
+use std::os::unix::ffi::OsStrExt;
+use std::os::unix::fs::{chown, PermissionsExt};
+use std::os::unix::process::CommandExt;
+use std::path::{Path, PathBuf};
+use std::process::{Child, Command, Output, Stdio};
+use std::thread::sleep;
+use std::time::{Duration, Instant};
+
+/// Frames of a run that is killed.
+const FRAMES: usize = 40;
+/// Points at which it is killed, for each of the two signals.
+const POINTS: usize = 150;
+
+const BINARY: &str = env!("CARGO_BIN_EXE_steyrbunk");
+
+/// An empty folder for one test; in memory where there is such a place, so that bringing things to the disk takes no time.
+fn folder(name: &str) -> PathBuf {
+    let memory = Path::new("/dev/shm");
+    let place = if memory.is_dir() {
+        memory
+    } else {
+        Path::new(env!("CARGO_TARGET_TMPDIR"))
+    };
+    let folder = place.join(format!("steyrbunk-fault-{name}"));
+    let _ = fs::remove_dir_all(&folder);
+    fs::create_dir_all(&folder).unwrap();
+    folder
+}
+
+fn command(folder: &Path, words: &[&str]) -> Command {
+    let mut command = Command::new(BINARY);
+    command.current_dir(folder).args(words).stdin(Stdio::null());
+    command
+}
+
+/// Runs the command; whatever it meets, it must not panic and must not hang.
+fn run(folder: &Path, words: &[&str]) -> Output {
+    ended(command(folder, words))
+}
+
+fn ended(mut command: Command) -> Output {
+    let child = command
+        .stdout(Stdio::piped())
+        .stderr(Stdio::piped())
+        .spawn()
+        .unwrap();
+    let output = within(child, Duration::from_secs(60));
+    assert!(!error(&output).contains("panicked"), "{}", error(&output));
+    output
+}
+
+fn within(mut child: Child, time: Duration) -> Output {
+    let started = Instant::now();
+    while child.try_wait().unwrap().is_none() {
+        if started.elapsed() > time {
+            child.kill().unwrap();
+            panic!("hangs: {}", error(&child.wait_with_output().unwrap()));
+        }
+        sleep(Duration::from_millis(1));
+    }
+    child.wait_with_output().unwrap()
+}
+
+fn error(output: &Output) -> String {
+    String::from_utf8_lossy(&output.stderr).into_owned()
+}
+
+fn status(output: &Output) -> i32 {
+    output.status.code().unwrap_or(-1)
+}
+
+/// A board of 48 by 48 pixels; the day moves it, so that lists of two days differ.
+fn board(day: usize, number: usize) -> Vec<u8> {
+    let mut file = b"P5 48 48 255\n".to_vec();
+    let shade = |x: usize, y: usize| ((x + 3 * day + number % 3) / 12 + (y + number % 5) / 12) % 2;
+    file.extend((0..48 * 48).map(|at| {
+        if shade(at % 48, at / 48) == 1 {
+            190
+        } else {
+            40
+        }
+    }));
+    file
+}
+
+fn write_day(frames: &Path, day: usize) {
+    fs::create_dir_all(frames.join("two")).unwrap();
+    for number in 0..FRAMES {
+        let sub = if number % 4 == 0 { "two/" } else { "" };
+        fs::write(
+            frames.join(format!("{sub}{number:03}.pgm")),
+            board(day, number),
+        )
+        .unwrap();
+    }
+}
+
+/// Every file below a folder with its content, by its name from there.
+fn all(folder: &Path) -> BTreeMap<String, Vec<u8>> {
+    let (mut found, mut folders) = (BTreeMap::new(), vec![folder.to_path_buf()]);
+    while let Some(at) = folders.pop() {
+        for entry in fs::read_dir(&at).unwrap() {
+            let path = entry.unwrap().path();
+            if path.is_dir() {
+                folders.push(path);
+            } else {
+                let name = path
+                    .strip_prefix(folder)
+                    .unwrap()
+                    .to_string_lossy()
+                    .into_owned();
+                found.insert(name, fs::read(&path).unwrap());
+            }
+        }
+    }
+    found
+}
+
+/// Names that only results have.
+fn is_result(name: &str) -> bool {
+    [".corners", ".csv", ".json", ".svg", ".png"]
+        .iter()
+        .any(|ending| name.ends_with(ending))
+        && name != "run.json"
+}
+
+/// The results that a manifest or a plan names.
+fn owned(text: &[u8]) -> BTreeSet<String> {
+    let text = String::from_utf8(text.to_vec()).unwrap();
+    text.split("\"results\":[")
+        .skip(1)
+        .flat_map(|rest| rest.split(']').next().unwrap().split(','))
+        .filter(|name| !name.is_empty())
+        .map(|name| name.trim_matches('"').to_string())
+        .collect()
+}
+
+/// What a folder is allowed to look like, whenever the command was stopped: `days` are the whole lists of each day.
+/// Tells whether there was a manifest.
+fn held(lists: &Path, days: &[BTreeMap<String, Vec<u8>>]) -> bool {
+    let files = all(lists);
+    let results: BTreeMap<_, _> = files.iter().filter(|(name, _)| is_result(name)).collect();
+    match (files.get("run.json"), files.get("run.plan")) {
+        (Some(manifest), _) => {
+            let owned = owned(manifest);
+            let there: BTreeSet<String> = results.keys().map(|name| name.to_string()).collect();
+            assert_eq!(there, owned, "a manifest, and other lists than it names");
+            // All of one day: the manifest's.
+            let of_day = |day: &BTreeMap<String, Vec<u8>>| {
+                results
+                    .iter()
+                    .all(|(name, list)| day.get(*name) == Some(*list))
+            };
+            assert!(days.iter().any(of_day), "lists of two runs");
+            true
+        }
+        (None, Some(plan)) => {
+            let owned = owned(plan);
+            results
+                .keys()
+                .for_each(|name| assert!(owned.contains(*name), "{name} is owned by nothing"));
+            false
+        }
+        (None, None) => {
+            assert!(
+                results.is_empty(),
+                "lists, and neither manifest nor plan: {results:?}"
+            );
+            false
+        }
+    }
+}
+
+/// The lists of a day, by a run that nothing disturbs.
+fn whole_day(folder: &Path, day: usize, words: &[&str]) -> BTreeMap<String, Vec<u8>> {
+    let at = folder.join(format!("day{day}"));
+    write_day(&at.join("frames"), day);
+    let output = run(&at, words);
+    assert_eq!(status(&output), 0, "{}", error(&output));
+    let mut files = all(&at.join("lists"));
+    files.retain(|name, _| is_result(name));
+    assert_eq!(files.len(), 2 * FRAMES);
+    files
+}
+
+/// Killed at many points of a run over yesterday's results: by SIGKILL and by SIGINT.
+#[test]
+fn killed_anywhere() {
+    let folder = folder("killed");
+    let words = ["--out", "lists", "--draw", "svg", "--quiet", "frames"];
+    let days = [whole_day(&folder, 0, &words), whole_day(&folder, 1, &words)];
+    assert_ne!(days[0], days[1]);
+    let at = folder.join("run");
+    let lists = at.join("lists");
+    write_day(&at.join("frames"), 0);
+    let started = Instant::now();
+    assert_eq!(status(&run(&at, &words)), 0);
+    let mut usual = started.elapsed();
+    let (mut cut, mut before, mut between, mut after) = (0, 0, 0, 0);
+    for point in 0..2 * POINTS {
+        // Yesterday's run, whole; then today's, killed on its way.
+        write_day(&at.join("frames"), 0);
+        assert_eq!(status(&run(&at, &words)), 0);
+        assert!(held(&lists, &days[..1]));
+        write_day(&at.join("frames"), 1);
+        let mut child = command(&at, &words).stderr(Stdio::null()).spawn().unwrap();
+        sleep(usual.mul_f64((point / 2) as f64 / POINTS as f64));
+        let signal = if point % 2 == 0 { "-KILL" } else { "-INT" };
+        let killed = Command::new("kill")
+            .args([signal, &child.id().to_string()])
+            .stderr(Stdio::null())
+            .status();
+        assert!(killed.is_ok());
+        let ended = child.wait().unwrap();
+        cut += usize::from(ended.code().is_none());
+        let manifest = held(&lists, &days);
+        let today = manifest && all(&lists)["001.pgm.corners"] == days[1]["001.pgm.corners"];
+        match (manifest, today) {
+            (true, false) => before += 1,
+            (false, _) => between += 1,
+            (true, true) => after += 1,
+        }
+        // The next run clears up.
+        let started = Instant::now();
+        assert_eq!(status(&run(&at, &words)), 0);
+        usual = usual.mul_f64(0.8) + started.elapsed().mul_f64(0.2);
+        assert!(held(&lists, &days[1..]));
+        let names: Vec<String> = all(&lists)
+            .into_keys()
+            .filter(|name| !is_result(name))
+            .collect();
+        assert_eq!(names, ["run.json"]);
+    }
+    println!(
+        "{} points: {cut} runs cut off; yesterday's manifest still there {before} times, none {between} times, today's {after} times",
+        2 * POINTS
+    );
+    assert!(
+        cut > POINTS / 2 && between > POINTS / 4,
+        "the points do not lie inside the runs: {cut}, {between}"
+    );
+}
+
+/// A file system that fills up on the way: small ones, in a name space of their own.
+#[test]
+fn a_full_disk() {
+    let folder = folder("full");
+    write_day(&folder.join("frames"), 1);
+    fs::create_dir_all(folder.join("lists")).unwrap();
+    let mut starved = 0;
+    for kilobytes in (8..=400).step_by(8) {
+        // Yesterday's lists stand on the disk; then it is made smaller than today's lists are.
+        let script = format!(
+            "mount -t tmpfs -o size=1m tmpfs lists && '{BINARY}' --quiet --out lists frames/two >/dev/null 2>&1 \
+             && mount -o remount,size={kilobytes}k lists; '{BINARY}' --quiet --out lists --draw svg frames 2>message; \
+             echo status $?; cd lists; find . -type f | sort; echo ---; cat run.json 2>/dev/null; echo ---; cat run.plan 2>/dev/null; \
+             cd ..; mount -o remount,size=8m lists; '{BINARY}' --quiet --out lists --draw svg frames; echo again $?; ls lists | grep -c part"
+        );
+        let output = Command::new("unshare")
+            .args(["-r", "-m", "sh", "-c", &script])
+            .current_dir(&folder)
+            .output()
+            .unwrap();
+        let text = String::from_utf8_lossy(&output.stdout).into_owned();
+        assert!(
+            text.contains("again 0\n0\n"),
+            "{kilobytes} kB: {text} {}",
+            error(&output)
+        );
+        let message = fs::read_to_string(folder.join("message")).unwrap();
+        assert!(!message.contains("panicked"), "{message}");
+        let mut parts = text.split("---\n");
+        let first = parts.next().unwrap();
+        let (manifest, plan) = (
+            owned(parts.next().unwrap().as_bytes()),
+            owned(parts.next().unwrap().as_bytes()),
+        );
+        let results: Vec<&str> = first
+            .lines()
+            .filter_map(|line| line.strip_prefix("./"))
+            .filter(|name| is_result(name))
+            .collect();
+        if first.contains("status 0\n") {
+            assert_eq!(results.len(), 2 * FRAMES, "{kilobytes} kB");
+        } else {
+            starved += 1;
+            assert!(
+                message.contains("No space left") || message.contains("os error 28"),
+                "{message}"
+            );
+        }
+        if first.contains("./run.json") {
+            results
+                .iter()
+                .for_each(|name| assert!(manifest.contains(*name), "{kilobytes} kB: {name}"));
+            assert_eq!(results.len(), manifest.len(), "{kilobytes} kB");
+        } else {
+            results
+                .iter()
+                .for_each(|name| assert!(plan.contains(*name), "{kilobytes} kB: {name}"));
+        }
+    }
+    println!("50 sizes, {starved} too small");
+    assert!(starved > 5);
+}
+
+fn is_root() -> bool {
+    let output = Command::new("id").arg("-u").output().unwrap();
+    output.stdout == b"0\n"
+}
+
+fn give(path: &Path, mode: u32) {
+    if is_root() {
+        chown(path, Some(65534), Some(65534)).unwrap();
+    }
+    fs::set_permissions(path, fs::Permissions::from_mode(mode)).unwrap();
+}
+
+/// A folder of the system's own, where a user without rights gets to.
+fn open_folder(name: &str) -> PathBuf {
+    let folder = std::env::temp_dir().join(format!("steyrbunk-{name}-{}", std::process::id()));
+    let _ = fs::remove_dir_all(&folder);
+    fs::create_dir_all(&folder).unwrap();
+    give(&folder, 0o755);
+    folder
+}
+
+/// Rights that are missing stop nobody else, and are named where they are missing.
+#[test]
+fn rights() {
+    let folder = open_folder("rights");
+    let copy = folder.join("steyrbunk");
+    fs::copy(BINARY, &copy).unwrap();
+    fs::set_permissions(&copy, fs::Permissions::from_mode(0o755)).unwrap();
+    // As a user without rights, since root is let in everywhere.
+    let nobody = |words: &[&str]| {
+        let mut command = Command::new(&copy);
+        command
+            .current_dir(&folder)
+            .args(words)
+            .stdin(Stdio::null());
+        if is_root() {
+            command.uid(65534).gid(65534);
+        }
+        ended(command)
+    };
+    let frames = folder.join("frames");
+    for sub in ["", "closed", "open"] {
+        fs::create_dir_all(frames.join(sub)).unwrap();
+        for name in ["a.pgm", "b.pgm"] {
+            let path = frames.join(sub).join(name);
+            fs::write(&path, board(0, 1)).unwrap();
+            give(&path, 0o644);
+        }
+        give(&frames.join(sub), 0o755);
+    }
+    let output = nobody(&["--out", "lists", "frames"]);
+    assert_eq!(
+        (status(&output), error(&output).as_str()),
+        (0, "6 frames, 0 without a list\n")
+    );
+    let lists = folder.join("lists");
+    // An unreadable subfolder and an unreadable frame: the others are taken, and these have no list.
+    give(&frames.join("closed"), 0o000);
+    give(&frames.join("open/a.pgm"), 0o000);
+    let output = nobody(&["--out", "lists", "frames"]);
+    assert_eq!(status(&output), 1);
+    assert!(
+        error(&output).contains("frames/closed: Permission denied"),
+        "{}",
+        error(&output)
+    );
+    assert!(
+        error(&output).contains("frames/open/a.pgm: Permission denied"),
+        "{}",
+        error(&output)
+    );
+    let files: Vec<String> = all(&lists).into_keys().collect();
+    assert_eq!(
+        files,
+        [
+            "a.pgm.corners",
+            "b.pgm.corners",
+            "open/b.pgm.corners",
+            "run.json"
+        ]
+    );
+    let manifest = fs::read_to_string(lists.join("run.json")).unwrap();
+    assert!(manifest.contains("\"problems\":[\"frames/closed: Permission denied"));
+    // An output that cannot be written: nothing is changed, and what is there is of one run.
+    give(&frames.join("closed"), 0o755);
+    let before = all(&lists);
+    give(&lists, 0o555);
+    give(&lists.join("open"), 0o555);
+    let output = nobody(&["--out", "lists", "frames"]);
+    assert_eq!(status(&output), 1);
+    assert!(
+        error(&output).contains("lists/run.json: Permission denied"),
+        "{}",
+        error(&output)
+    );
+    assert_eq!(all(&lists), before);
+    // A list that cannot be removed: no manifest is left over it.
+    give(&lists, 0o755);
+    let output = nobody(&["--out", "lists", "frames"]);
+    assert_eq!(status(&output), 1);
+    assert!(
+        error(&output).contains("lists/open/b.pgm.corners: Permission denied"),
+        "{}",
+        error(&output)
+    );
+    let files: Vec<String> = all(&lists).into_keys().collect();
+    assert_eq!(files, ["open/b.pgm.corners", "run.plan"]);
+    give(&lists.join("open"), 0o755);
+    let output = nobody(&["--out", "lists", "frames"]);
+    assert_eq!(status(&output), 1, "the unreadable frame");
+    assert_eq!(all(&lists).len(), 6);
+    fs::remove_dir_all(&folder).unwrap();
+}
+
+/// While one run has a folder, another is told so and changes nothing.
+#[test]
+fn two_at_a_time() {
+    let folder = folder("two");
+    write_day(&folder.join("frames"), 0);
+    assert_eq!(
+        status(&run(&folder, &["--out", "lists", "--quiet", "frames"])),
+        0
+    );
+    // The first run waits for its frame on standard input.
+    let mut first = Command::new(BINARY);
+    let mut first = first
+        .current_dir(&folder)
+        .args(["--out", "lists", "-"])
+        .stdin(Stdio::piped())
+        .spawn()
+        .unwrap();
+    let lists = folder.join("lists");
+    let started = Instant::now();
+    let planned = || {
+        fs::read_to_string(lists.join("run.plan")).is_ok_and(|plan| plan.contains("stdin.corners"))
+    };
+    while !planned() {
+        assert!(started.elapsed() < Duration::from_secs(20));
+        sleep(Duration::from_millis(1));
+    }
+    let before = all(&lists);
+    let output = run(&folder, &["--out", "lists", "frames"]);
+    assert_eq!(status(&output), 1);
+    assert!(error(&output).contains("lists: another run is writing there; nothing was changed"));
+    assert_eq!(all(&lists), before);
+    first.stdin.take().unwrap().write_all(&board(0, 1)).unwrap();
+    assert!(first.wait().unwrap().success());
+    let files: Vec<String> = all(&lists).into_keys().collect();
+    assert_eq!(files, ["run.json", "stdin.corners"]);
+    assert_eq!(status(&run(&folder, &["--out", "lists", "frames"])), 0);
+}
+
+/// Frames that are gone, an empty mount point, a folder that is gone.
+#[test]
+fn nothing_to_find() {
+    let folder = folder("nothing");
+    let (frames, lists) = (folder.join("frames"), folder.join("lists"));
+    write_day(&frames, 0);
+    let words = ["--out", "lists", "--quiet", "frames"];
+    assert_eq!(status(&run(&folder, &words)), 0);
+    fs::remove_file(frames.join("001.pgm")).unwrap();
+    let output = run(&folder, &words);
+    assert_eq!(status(&output), 1);
+    assert!(error(&output).contains("frames/001.pgm: gone: the run before had it"));
+    assert!(!lists.join("001.pgm.corners").exists());
+    let manifest = fs::read_to_string(lists.join("run.json")).unwrap();
+    assert!(
+        manifest.contains("{\"name\":\"001.pgm\"")
+            && manifest.contains("\"gone\":true,\"results\":[]")
+    );
+    // It is told once; a run that names other frames does not take these for gone.
+    assert_eq!(status(&run(&folder, &words)), 0);
+    assert_eq!(status(&run(&folder, &["--out", "lists", "frames/two"])), 0);
+    assert_eq!(all(&lists).len(), 1 + FRAMES / 4);
+    assert_eq!(status(&run(&folder, &words)), 0);
+    fs::rename(&frames, folder.join("away")).unwrap();
+    for mounted in [true, false] {
+        if mounted {
+            fs::create_dir(&frames).unwrap();
+        } else {
+            fs::remove_dir(&frames).unwrap();
+        }
+        let output = run(&folder, &words);
+        assert_eq!(status(&output), 1);
+        let text = if mounted {
+            "frames: no .pgm or .frame file in it"
+        } else {
+            "frames: No such file"
+        };
+        assert!(error(&output).contains(text), "{}", error(&output));
+        let files: Vec<String> = all(&lists).into_keys().collect();
+        assert_eq!(files, ["run.json"]);
+    }
+}
+
+/// What the command did not write stays, and is named.
+#[test]
+fn the_users_own_files() {
+    let folder = folder("own");
+    let (frames, lists) = (folder.join("frames"), folder.join("lists"));
+    fs::create_dir_all(&frames).unwrap();
+    fs::create_dir_all(&lists).unwrap();
+    fs::write(frames.join("a.pgm"), board(0, 1)).unwrap();
+    fs::write(frames.join("b.pgm"), board(0, 2)).unwrap();
+    for name in ["a.pgm.corners", "notes.txt", "c.pgm.corners", "b.pgm.csv"] {
+        fs::write(lists.join(name), "mine").unwrap();
+    }
+    let words = ["--out", "lists", "frames"];
+    for _ in 0..2 {
+        let output = run(&folder, &words);
+        assert_eq!(status(&output), 1);
+        let text = "frames/a.pgm: a.pgm.corners is there and not of an earlier run: it stays";
+        assert!(error(&output).contains(text), "{}", error(&output));
+        let files = all(&lists);
+        assert_eq!(files.len(), 6);
+        assert_eq!(files.values().filter(|text| *text == b"mine").count(), 4);
+        assert!(files.contains_key("b.pgm.corners"));
+    }
+    fs::remove_file(lists.join("a.pgm.corners")).unwrap();
+    assert_eq!(status(&run(&folder, &words)), 0);
+    // A manifest of somebody else, one that was damaged, and one that leads out of the folder.
+    let outside = folder.join("outside.corners");
+    fs::write(&outside, "mine").unwrap();
+    for (text, message) in [
+        ("{\"name\": \"an app\"}", "run.json: is not of this command"),
+        ("", "run.json: is not of this command"),
+        (
+            "{\"steyrbunk\":\"0.1.0\",\"frames\":[{\"results\":[\"../outside.corners\"]}]}",
+            "names a result that is not inside",
+        ),
+        (
+            "{\"steyrbunk\":\"0.1.0\",\"frames\":[{\"results\":[\"/outside.corners\"]}]}",
+            "names a result that is not inside",
+        ),
+    ] {
+        fs::write(lists.join("run.json"), text).unwrap();
+        let output = run(&folder, &words);
+        assert_eq!(status(&output), 1);
+        assert!(error(&output).contains(message), "{}", error(&output));
+        assert!(outside.exists() && lists.join("b.pgm.corners").exists());
+        let _ = fs::remove_file(lists.join("run.plan"));
+    }
+}
+
+/// No frame can keep a run waiting, and no name can break a list.
+#[test]
+fn strange_frames_and_names() {
+    let folder = folder("strange");
+    let frames = folder.join("frames");
+    fs::create_dir_all(&frames).unwrap();
+    let pipe = Command::new("mkfifo")
+        .arg(frames.join("x.pgm"))
+        .status()
+        .unwrap();
+    assert!(pipe.success());
+    let names: [&[u8]; 4] = [
+        b"new\nline.pgm",
+        b"\x1b[2Jclear.pgm",
+        b"\xff\xfebytes.pgm",
+        b"quo\"te,.pgm",
+    ];
+    for name in names {
+        fs::write(frames.join(OsStr::from_bytes(name)), board(0, 1)).unwrap();
+    }
+    let output = run(&folder, &["frames", "--quiet"]);
+    assert_eq!(status(&output), 1);
+    assert!(error(&output).contains("frames/x.pgm: not a regular file"));
+    let text = String::from_utf8(output.stdout).unwrap();
+    let heads: Vec<&str> = text.lines().filter(|line| line.starts_with('#')).collect();
+    assert_eq!(heads.len(), 5);
+    for head in [
+        "# frames/new\\x0aline.pgm",
+        "# frames/\\x1b[2Jclear.pgm",
+        "# frames/\\xff\\xfebytes.pgm",
+    ] {
+        assert!(heads.contains(&head), "{heads:?}");
+    }
+    assert!(!text.contains('\x1b'));
+    for format in ["csv", "json"] {
+        let output = run(&folder, &["frames", "--quiet", "--format", format]);
+        let text = String::from_utf8(output.stdout).unwrap();
+        assert!(
+            !text.contains('\x1b') && text.lines().all(|line| line.starts_with(['f', '{', '"'])),
+            "{text}"
+        );
+    }
+    // The results are found again by their own names, and cleared.
+    for _ in 0..2 {
+        assert_eq!(status(&run(&folder, &["--beside", "--quiet", "frames"])), 1);
+        for name in names {
+            let mut list = frames.join(OsStr::from_bytes(name)).into_os_string();
+            list.push(".corners");
+            assert!(Path::new(&list).exists());
+        }
+    }
+    for name in names {
+        fs::write(frames.join(OsStr::from_bytes(name)), b"P5").unwrap();
+    }
+    assert_eq!(status(&run(&folder, &["--beside", "--quiet", "frames"])), 1);
+    assert_eq!(
+        fs::read_dir(&frames).unwrap().count(),
+        6,
+        "four frames, the pipe, run.json"
+    );
+}
+
+/// Lists come in the order of names, however many frames are taken up at a time.
+#[test]
+fn in_order() {
+    let folder = folder("order");
+    write_day(&folder.join("frames"), 0);
+    let one = run(&folder, &["--jobs", "1", "--quiet", "frames"]);
+    assert_eq!(status(&one), 0);
+    for jobs in ["2", "7", "100"] {
+        let several = run(&folder, &["--jobs", jobs, "--quiet", "frames"]);
+        assert_eq!(several.stdout, one.stdout);
+    }
+    let text = String::from_utf8(one.stdout).unwrap();
+    let names: Vec<&str> = text.lines().filter(|line| line.starts_with('#')).collect();
+    assert!(names.is_sorted() && names.len() == FRAMES);
+}
+
+/// Standard output that cannot be written is said, and counts.
+#[test]
+fn a_full_output() {
+    let folder = folder("output");
+    fs::write(folder.join("a.pgm"), board(0, 1)).unwrap();
+    let mut command = command(&folder, &["a.pgm"]);
+    command.stdout(
+        fs::OpenOptions::new()
+            .write(true)
+            .open("/dev/full")
+            .unwrap(),
+    );
+    let output = command
+        .stderr(Stdio::piped())
+        .spawn()
+        .unwrap()
+        .wait_with_output()
+        .unwrap();
+    assert_eq!(status(&output), 1);
+    assert!(error(&output).contains("standard output: No space left on device"));
+}
