@@ -116,7 +116,7 @@ impl Run<'_> {
         let rows = rows
             .iter()
             .map(|(name, path, files)| (&name[..], &path[..], *files));
-        site.plan(&record::plan(rows))?;
+        site.plan(&record::plan(rows, &site.aside()))?;
         let mut records = self.gone(group, site);
         let mut frames = group.frames.iter();
         work::work(self.options, Some(site), &planned, |done| {

@@ -108,7 +108,10 @@ pub fn manifest(
 }
 
 /// What a run is about to write: as much of a manifest as the next run needs.
-pub fn plan<'a>(frames: impl Iterator<Item = (&'a [u8], &'a [u8], &'a [PathBuf])>) -> String {
+pub fn plan<'a>(
+    frames: impl Iterator<Item = (&'a [u8], &'a [u8], &'a [PathBuf])>,
+    aside: &[PathBuf],
+) -> String {
     let frames: Vec<String> = frames
         .map(|(name, path, files)| {
             format!(
@@ -120,8 +123,9 @@ pub fn plan<'a>(frames: impl Iterator<Item = (&'a [u8], &'a [u8], &'a [PathBuf])
         })
         .collect();
     format!(
-        "{{\"steyrbunk\":{},\n\"unfinished\":true,\n\"frames\":[\n{}\n]}}\n",
+        "{{\"steyrbunk\":{},\n\"unfinished\":true,\n\"aside\":{},\n\"frames\":[\n{}\n]}}\n",
         json(env!("CARGO_PKG_VERSION").as_bytes()),
+        results(aside),
         frames.join(",\n")
     )
 }

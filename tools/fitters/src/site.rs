@@ -1,11 +1,13 @@
 //! The folder that a run writes to. A run is whole or it is none:
 //!
 //! - `run.json`, the manifest, is written last and by rename: where it stands, every list that it names is of that run.
-//! - It is the first thing that the next run takes away: it becomes `run.plan`, by rename, and the results that it names are removed.
+//! - It is the first thing that the next run takes away: it becomes `run.plan`, by rename, and the results that it names lose their names.
 //! - `run.plan` names all that a run is about to write before it writes any of it, so that the next run can clear up after one that was killed.
-//! - Results have a name of their own only at the end of a run; until then they end in `.part`.
-//! - Nothing else is ever removed.
+//! - Results have a name of their own only at the end of a run; until then they end in `.part`. An old result becomes such a part, by rename,
+//!   and is written over: that takes its name away at once, where removing it can take milliseconds (a disk that forgets blocks as they are freed).
+//! - Nothing else is ever removed or written over.
 
+use std::collections::BTreeSet;
 use std::fs::{self, File, OpenOptions, TryLockError};
 use std::io::{self, ErrorKind, Write};
 use std::path::{Component, Path, PathBuf};
@@ -32,6 +34,10 @@ pub struct Site {
     _lock: File,
     /// The frames of the run before.
     pub before: Vec<Earlier>,
+    /// Results of earlier runs that have lost their names and are there as parts.
+    aside: BTreeSet<PathBuf>,
+    /// The plans by which they are owned until this run has its own.
+    plans: Vec<PathBuf>,
 }
 
 impl Site {
@@ -50,33 +56,117 @@ impl Site {
             folder: folder.to_path_buf(),
             _lock: lock,
             before: Vec::new(),
+            aside: BTreeSet::new(),
+            plans: Vec::new(),
         };
         for folder in std::iter::once(folder).chain(below.iter().map(PathBuf::as_path)) {
-            site.before.extend(clear(folder)?);
+            site.clear(folder)?;
         }
         Ok(site)
+    }
+
+    /// Takes away what earlier runs left in a folder.
+    fn clear(&mut self, folder: &Path) -> io::Result<()> {
+        let (manifest, plan) = (folder.join(MANIFEST), folder.join(PLAN));
+        // A plan is of a run that was cut off. A manifest becomes a plan: from then on no list counts, and if this run
+        // is cut off here the next one goes on.
+        let cut_off = read(&plan)?;
+        if let Some(earlier) = read(&manifest)? {
+            if let Some(cut_off) = &cut_off {
+                self.set_aside(folder, &plan, cut_off)?;
+            }
+            fs::rename(&manifest, &plan).map_err(|error| named(&manifest, error))?;
+            sync_folder(folder)?;
+            self.set_aside(folder, &plan, &earlier)?;
+            self.plans.push(plan);
+        } else if let Some(cut_off) = &cut_off {
+            self.set_aside(folder, &plan, cut_off)?;
+            self.plans.push(plan);
+        }
+        Ok(())
+    }
+
+    /// Takes the names of the results that a plan names, whole or half written.
+    fn set_aside(&mut self, folder: &Path, plan: &Path, json: &Json) -> io::Result<()> {
+        let at = folder
+            .strip_prefix(&self.folder)
+            .unwrap_or(Path::new(""))
+            .to_path_buf();
+        let frames = json.get("frames").map_or(&[][..], Json::list);
+        let listed = frames
+            .iter()
+            .flat_map(|frame| frame.get("results").map_or(&[][..], Json::list));
+        for result in listed.chain(json.get("aside").map_or(&[][..], Json::list)) {
+            let result = result.text().and_then(inner).ok_or_else(|| {
+                let text = "names a result that is not inside its folder, which stays";
+                named(plan, io::Error::new(ErrorKind::InvalidData, text))
+            })?;
+            let path = folder.join(&result);
+            let there = match fs::rename(&path, part(&path)) {
+                Ok(()) => true,
+                Err(error) if is_missing(&error) => fs::symlink_metadata(part(&path)).is_ok(),
+                Err(error) => return Err(named(&path, error)),
+            };
+            if there {
+                self.aside.insert(at.join(result));
+            }
+        }
+        for frame in frames.iter().filter(|frame| frame.get("gone").is_none()) {
+            let text = |name| {
+                frame
+                    .get(name)
+                    .and_then(Json::text)
+                    .unwrap_or_default()
+                    .to_vec()
+            };
+            self.before.push(Earlier {
+                name: text("name"),
+                path: text("path"),
+            });
+        }
+        Ok(())
+    }
+
+    /// Old results that are still there as parts.
+    pub fn aside(&self) -> Vec<PathBuf> {
+        self.aside.iter().cloned().collect()
     }
 
     /// Whether there is something in a result's place that is not of a run.
     pub fn is_taken(&self, result: &Path) -> bool {
         let path = self.folder.join(result);
-        fs::symlink_metadata(&path).is_ok() || fs::symlink_metadata(part(&path)).is_ok()
+        let is_there = |path: &Path| fs::symlink_metadata(path).is_ok();
+        is_there(&path) || !self.aside.contains(result) && is_there(&part(&path))
     }
 
-    /// Says what will be written, before any of it is.
+    /// Says what will be written and what is there aside, before anything is written.
     pub fn plan(&self, text: &str) -> io::Result<()> {
-        self.put(PLAN, text)
+        self.put(PLAN, text)?;
+        let own = self.folder.join(PLAN);
+        for plan in self.plans.iter().filter(|plan| **plan != own) {
+            fs::remove_file(plan).map_err(|error| named(plan, error))?;
+        }
+        Ok(())
     }
 
-    /// Writes a result under its passing name.
+    /// Writes a result under its passing name, over an old one that is aside.
     pub fn write(&self, result: &Path, content: &[u8]) -> io::Result<()> {
         let path = part(&self.folder.join(result));
-        if let Some(folder) = path.parent() {
-            fs::create_dir_all(folder).map_err(|error| named(folder, error))?;
-        }
-        let file = OpenOptions::new().write(true).create_new(true).open(&path);
-        file.and_then(|mut file| file.write_all(content))
-            .map_err(|error| named(&path, error))
+        let mut options = OpenOptions::new();
+        options.write(true).create_new(!self.aside.contains(result));
+        let file = match options.open(&path) {
+            Err(error) if error.kind() == ErrorKind::NotFound => {
+                let folder = path.parent().unwrap_or(&self.folder);
+                fs::create_dir_all(folder).map_err(|error| named(folder, error))?;
+                options.open(&path)
+            }
+            opened => opened,
+        };
+        let written = file.and_then(|mut file| {
+            file.write_all(content)?;
+            file.set_len(content.len() as u64)
+        });
+        written.map_err(|error| named(&path, error))
     }
 
     /// Takes back a result that was written.
@@ -92,8 +182,21 @@ impl Site {
         fs::rename(part(&path), &path).map_err(|error| named(&path, error))
     }
 
-    /// All results are named: brings them to the disk, then the manifest, and then the plan is done with.
+    /// All results are named: removes what was aside and has no successor, brings all to the disk, then the manifest, and then
+    /// the plan is done with.
     pub fn finish(&self, text: &str, results: &[PathBuf]) -> io::Result<()> {
+        let named_again: BTreeSet<&PathBuf> = results.iter().collect();
+        for result in self
+            .aside
+            .iter()
+            .filter(|result| !named_again.contains(result))
+        {
+            let path = part(&self.folder.join(result));
+            match fs::remove_file(&path) {
+                Err(error) if !is_missing(&error) => return Err(named(&path, error)),
+                _ => {}
+            }
+        }
         self.settle(results)?;
         self.put(MANIFEST, text)?;
         let plan = self.folder.join(PLAN);
@@ -141,23 +244,6 @@ impl Site {
     }
 }
 
-/// Takes away what earlier runs left in a folder, and tells which frames they had.
-fn clear(folder: &Path) -> io::Result<Vec<Earlier>> {
-    let (manifest, plan) = (folder.join(MANIFEST), folder.join(PLAN));
-    let mut frames = Vec::new();
-    // A plan is of a run that was cut off. A manifest becomes a plan: from then on no list counts, and if this run
-    // is cut off here the next one goes on.
-    if let Some(earlier) = read(&plan)? {
-        frames.extend(remove(folder, &plan, &earlier)?);
-    }
-    if let Some(earlier) = read(&manifest)? {
-        fs::rename(&manifest, &plan).map_err(|error| named(&manifest, error))?;
-        sync_folder(folder)?;
-        frames.extend(remove(folder, &plan, &earlier)?);
-    }
-    Ok(frames)
-}
-
 /// A manifest or a plan, if there is one. One that is not of this command stands in the way.
 fn read(path: &Path) -> io::Result<Option<Json>> {
     let text = match fs::read(path) {
@@ -170,43 +256,6 @@ fn read(path: &Path) -> io::Result<Option<Json>> {
         let text = "is not of this command, and stands in the way; nothing was changed";
         named(path, io::Error::new(ErrorKind::InvalidData, text))
     })
-}
-
-/// Removes the results that a plan names, whole or half written, and then the plan itself.
-fn remove(folder: &Path, plan: &Path, json: &Json) -> io::Result<Vec<Earlier>> {
-    let mut frames = Vec::new();
-    for frame in json.get("frames").map_or(&[][..], Json::list) {
-        let text = |name| {
-            frame
-                .get(name)
-                .and_then(Json::text)
-                .unwrap_or_default()
-                .to_vec()
-        };
-        for result in frame.get("results").map_or(&[][..], Json::list) {
-            let result = result.text().and_then(inner).ok_or_else(|| {
-                let text =
-                    "names a result that is not inside its folder; nothing was removed for it";
-                named(plan, io::Error::new(ErrorKind::InvalidData, text))
-            })?;
-            let path = folder.join(result);
-            for path in [part(&path), path] {
-                match fs::remove_file(&path) {
-                    Err(error) if !is_missing(&error) => return Err(named(&path, error)),
-                    _ => {}
-                }
-            }
-        }
-        if frame.get("gone").is_none() {
-            frames.push(Earlier {
-                name: text("name"),
-                path: text("path"),
-            });
-        }
-    }
-    fs::remove_file(plan).map_err(|error| named(plan, error))?;
-    sync_folder(folder)?;
-    Ok(frames)
 }
 
 /// Gone already, or its folder is.

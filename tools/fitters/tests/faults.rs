@@ -408,7 +408,7 @@ fn rights() {
         error(&output)
     );
     assert_eq!(all(&lists), before);
-    // A list that cannot be removed: no manifest is left over it.
+    // A list whose name cannot be taken away: no manifest is left over it, and the plan owns it.
     give(&lists, 0o755);
     let output = nobody(&["--out", "lists", "frames"]);
     assert_eq!(status(&output), 1);
@@ -418,7 +418,10 @@ fn rights() {
         error(&output)
     );
     let files: Vec<String> = all(&lists).into_keys().collect();
-    assert_eq!(files, ["open/b.pgm.corners", "run.plan"]);
+    assert_eq!(
+        files,
+        ["a.pgm.corners.part", "b.pgm.corners.part", "open/b.pgm.corners", "run.plan"]
+    );
     give(&lists.join("open"), 0o755);
     let output = nobody(&["--out", "lists", "frames"]);
     assert_eq!(status(&output), 1, "the unreadable frame");

@@ -1,0 +1,209 @@
+"""The proved corner finder from Python: one file, no package needed.
+
+Build the shared library once, from the repository's root, after the static one (docs/USING.md):
+
+    cc -shared -o target/libsteyrbunk.so -Wl,--whole-archive target/staticlib/libsteyrbunk_c.a -Wl,--no-whole-archive
+
+Then
+
+    import steyrbunk
+    finder = steyrbunk.Finder()                      # keeps its buffers between calls
+    corners = finder.find(image)                     # a 2-D grey image: numpy, OpenCV, a memoryview
+    corners = finder.find(pixels, 1280, 960)         # bytes, row after row, with their sides
+    corners = finder.find(image, threshold_rel=0.1)  # other settings than the defaults
+    steyrbunk.draw("dawn.png", image, corners)
+
+A refusal raises `Refused`, with document 01's number and its words; there is no list then, and none from before.
+What is proved is the library behind the call; this file is not, and is tested by running it.
+"""
+
+import ctypes
+import os
+import struct
+import zlib
+from collections import namedtuple
+
+__all__ = ["Corner", "Finder", "Refused", "WORDS", "draw"]
+
+Corner = namedtuple("Corner", "x y strength")
+Corner.__doc__ = "A corner: its place in input pixels, the middle of a pixel being a whole number, and the map's value there."
+
+WORDS = {
+    0: "accepted, all corners are in the list",
+    1: "accepted, more corners than the list has room for",
+    2: "width or height is over 4,096 pixels",
+    3: "the number of pixels is not width times height",
+    4: "there are over 8,388,608 working pixels",
+    5: "the ray radius is over 7",
+    6: "the blur radius is over 3",
+    7: "the suppression radius is over 32",
+    8: "the threshold is not a number from 0 to 1",
+    9: "a lent buffer is too short",
+    14: "the mode is neither 0 (parabolic) nor 1 (Gaussian)",
+}
+
+DEFAULTS = {
+    "ray_radius": 4,
+    "image_upsample": 2,
+    "response_blur_radius": 1,
+    "peak_fit": "gaussian",
+    "threshold_rel": 0.28,
+    "nms_radius": 4,
+    "min_cluster_size": 2,
+}
+
+_FITS = {"parabolic": 0, "gaussian": 1}
+_LARGEST_SIDE = 4096
+_LARGEST_WORKING = 8388608
+_FIRST_ROOM = 1024
+
+
+class Refused(ValueError):
+    """A call that was refused: `number` is document 01's, `words` say why."""
+
+    def __init__(self, number):
+        self.number = number
+        self.words = WORDS.get(number, "refused for a reason that this file does not know")
+        super().__init__(f"refused {number}: {self.words}")
+
+
+def _library(path=None):
+    here = os.path.dirname(os.path.abspath(__file__))
+    places = [path, os.environ.get("STEYRBUNK_SO"), os.path.join(here, "libsteyrbunk.so")]
+    places.append(os.path.join(here, os.pardir, "target", "libsteyrbunk.so"))
+    for place in places:
+        if place and os.path.exists(place):
+            return ctypes.CDLL(os.path.abspath(place))
+    raise OSError("libsteyrbunk.so is not there: build it as steyrbunk.py says, or name it in STEYRBUNK_SO")
+
+
+def _pixels(image, width, height):
+    """The pixels of an image, row after row, and its sides."""
+    view = memoryview(image)
+    if view.itemsize != 1 or view.format not in ("B", "b", "c", "@B"):
+        raise TypeError(f"8-bit grey pixels are taken, not entries of {view.itemsize} bytes ({view.format})")
+    if view.ndim == 2:
+        rows, columns = view.shape
+        if (width, height) not in ((None, None), (columns, rows)):
+            raise ValueError(f"the image is {columns} by {rows}, not {width} by {height}")
+        width, height = columns, rows
+    elif view.ndim != 1:
+        raise TypeError(f"one grey value a pixel is taken, not {view.shape[-1]}: make the image grey first")
+    elif width is None or height is None:
+        raise TypeError("pixels without rows need their width and height")
+    width, height = int(width), int(height)
+    if width < 0 or height < 0:
+        raise ValueError("a side is below 0")
+    return (view.cast("B") if view.c_contiguous and view.nbytes else memoryview(view.tobytes())), width, height
+
+
+def _lent(kind, view):
+    """Bytes as an argument, where they stand if that can be."""
+    if view.readonly:
+        return (kind * len(view)).from_buffer_copy(view)
+    return (kind * len(view)).from_buffer(view)
+
+
+class Finder:
+    """Finds corners in one image after another and keeps its buffers, 25 bytes a working pixel. Not for two threads at a time."""
+
+    def __init__(self, library=None):
+        self._find = _library(library).steyrbunk_find
+        self._find.restype = ctypes.c_uint32
+        self._entries = 0
+        self._buffers = self._made(0)
+        self._room(_FIRST_ROOM)
+
+    @staticmethod
+    def _made(entries):
+        kinds = [ctypes.c_uint8] + 4 * [ctypes.c_uint32] + 2 * [ctypes.c_float]
+        return [(kind * entries)() for kind in kinds]
+
+    def _room(self, corners):
+        self._list = (ctypes.c_float * (3 * corners))()
+
+    def find(self, image, width=None, height=None, **settings):
+        """All corners of an image in row order. Settings by their names, as in DEFAULTS."""
+        unknown = set(settings) - set(DEFAULTS)
+        if unknown:
+            raise TypeError(f"no setting is called {', '.join(sorted(unknown))}")
+        chosen = {**DEFAULTS, **settings}
+        fit = _FITS.get(chosen["peak_fit"], chosen["peak_fit"])
+        if not isinstance(fit, int):
+            raise ValueError(f"no peak fit is called {fit}")
+        pixels, width, height = _pixels(image, width, height)
+        self._prepare(len(pixels), width, height, int(chosen["image_upsample"]))
+        numbers = [self._whole(chosen, name) for name in ("ray_radius", "image_upsample", "response_blur_radius")]
+        numbers += [ctypes.c_uint32(fit), ctypes.c_float(chosen["threshold_rel"])]
+        numbers += [self._whole(chosen, name) for name in ("nms_radius", "min_cluster_size")]
+        lent = _lent(ctypes.c_uint8, pixels)
+        while True:
+            count, w, h = ctypes.c_size_t(), ctypes.c_size_t(), ctypes.c_size_t()
+            arguments = [lent, ctypes.c_size_t(len(pixels)), ctypes.c_size_t(width), ctypes.c_size_t(height), *numbers]
+            for buffer in self._buffers + [self._list]:
+                arguments += [buffer, ctypes.c_size_t(len(buffer))]
+            answer = self._find(*arguments, ctypes.byref(count), ctypes.byref(w), ctypes.byref(h))
+            if answer == 1:
+                self._room(count.value)
+                continue
+            if answer != 0:
+                raise Refused(answer)
+            found = self._list[: 3 * count.value]
+            return [Corner(*found[at : at + 3]) for at in range(0, len(found), 3)]
+
+    @staticmethod
+    def _whole(settings, name):
+        value = settings[name]
+        if not 0 <= int(value) < 2**32 or int(value) != value:
+            raise ValueError(f"{name} is a whole number from 0 up, not {value}")
+        return ctypes.c_uint32(int(value))
+
+    def _prepare(self, pixels, width, height, upsample):
+        """Longer buffers where they are needed; for sizes that the library refuses nothing is made."""
+        factor = min(max(upsample, 1), 2)
+        working = width * height * factor * factor
+        if max(width, height) > _LARGEST_SIDE or pixels != width * height or working > _LARGEST_WORKING:
+            return
+        if working > self._entries:
+            self._buffers, self._entries = self._made(0), 0
+            self._buffers, self._entries = self._made(working), working
+
+
+def draw(path, image, corners, width=None, height=None):
+    """Writes the image with a ring at each corner as a PNG picture, small images enlarged."""
+    pixels, width, height = _pixels(image, width, height)
+    if len(pixels) != width * height or not pixels:
+        raise ValueError("there is no image to draw")
+    scale = max(1, 800 // max(width, height))
+    wide, high = width * scale, height * scale
+    rows = []
+    for y in range(height):
+        row = bytearray()
+        for value in pixels[y * width : (y + 1) * width]:
+            row += bytes((value,)) * (3 * scale)
+        rows += [bytearray(row) for _ in range(scale)]
+    for corner in corners:
+        _ring(rows, wide, high, (corner[0] + 0.5) * scale, (corner[1] + 0.5) * scale)
+    _write_png(path, wide, high, rows)
+
+
+def _ring(rows, wide, high, x, y, radius=6):
+    for dy in range(-radius - 1, radius + 2):
+        for dx in range(-radius - 1, radius + 2):
+            on_ring = abs(dx * dx + dy * dy - radius * radius) <= radius
+            if on_ring or (dx == 0 or dy == 0) and dx * dx + dy * dy <= 4:
+                column, row = int(x) + dx, int(y) + dy
+                if 0 <= column < wide and 0 <= row < high:
+                    rows[row][3 * column : 3 * column + 3] = bytes((230, 0, 30))
+
+
+def _write_png(path, wide, high, rows):
+    def chunk(kind, content):
+        return struct.pack(">I", len(content)) + kind + content + struct.pack(">I", zlib.crc32(kind + content))
+
+    head = struct.pack(">IIBBBBB", wide, high, 8, 2, 0, 0, 0)
+    body = zlib.compress(b"".join(b"\0" + bytes(row) for row in rows))
+    passing = f"{os.fspath(path)}.part"
+    with open(passing, "wb") as file:
+        file.write(b"\x89PNG\r\n\x1a\n" + chunk(b"IHDR", head) + chunk(b"IDAT", body) + chunk(b"IEND", b""))
+    os.replace(passing, path)
