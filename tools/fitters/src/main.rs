@@ -15,7 +15,7 @@ use std::{env, fs};
 
 use console::{say, Progress, Usage};
 use frame::{Named, Problem};
-use options::{Drawing, Options, HELP};
+use options::{Drawing, Options};
 use output::Format;
 use results::{Place, Results};
 use steyrbunk::{Finder, Found, Image};
@@ -197,5 +197,7 @@ fn main() -> ExitCode {
         .map_or("steyrbunk".into(), |name| {
             name.to_string_lossy().into_owned()
         });
-    console::run(&name, HELP, |words| run(&options::options(words)?))
+    console::run(&name, &options::help(), |words| {
+        run(&options::options(words)?)
+    })
 }

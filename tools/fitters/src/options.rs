@@ -3,13 +3,26 @@
 use std::path::PathBuf;
 
 use console::{Usage, Word, Words};
-use steyrbunk::PeakFit;
+use steyrbunk::{PeakFit, Settings};
 
 use crate::frame::Named;
 use crate::output::Format;
 use crate::results::Place;
 
-pub const HELP: &str = "\
+/// The help, with limits and defaults from where they are said.
+pub fn help() -> String {
+    let Settings {
+        ray_radius: ray,
+        image_upsample: up,
+        response_blur_radius: blur,
+        threshold_rel: threshold,
+        nms_radius: window,
+        min_cluster_size: least,
+        ..
+    } = Settings::default();
+    let (rays, blurs, windows) = (limits::RAY, limits::BLUR, limits::SUPPRESSION);
+    format!(
+        "\
 steyrbunk finds the corners of chessboard panels in camera frames.
 
   steyrbunk [OPTIONS] PATH...
@@ -30,13 +43,13 @@ Output
   --quiet          no progress
 
 Settings, for PGM pictures; a frame file has its own
-  --ray-radius N             0 to 7, default 4; half length of the rays, in working pixels
-  --image-upsample N         1 or 2, default 2; working pixels along an input pixel
-  --response-blur-radius N   0 to 3, default 1
+  --ray-radius N             0 to {rays}, default {ray}; half length of the rays, in working pixels
+  --image-upsample N         1 or 2, default {up}; working pixels along an input pixel
+  --response-blur-radius N   0 to {blurs}, default {blur}
   --peak-fit NAME            parabolic or gaussian, default gaussian
-  --threshold-rel F          0 to 1, default 0.28; a part of the frame's strongest response
-  --nms-radius N             0 to 32, default 4; half size of the window a corner must win
-  --min-cluster-size N       default 2; positive neighbours that a corner must have
+  --threshold-rel F          0 to 1, default {threshold}; a part of the frame's strongest response
+  --nms-radius N             0 to {windows}, default {window}; half size of the window a corner must win
+  --min-cluster-size N       default {least}; positive neighbours that a corner must have
   --override                 puts the settings named in the call over those of frame files
 
 Places are input pixels; the middle of the upper left pixel is 0, 0.
@@ -48,7 +61,9 @@ brought to the disk, and only then given its own. A frame that is refused has no
 Status. 0 if every frame has a list; 1 if one was refused, damaged or could not be read or written:
 its name and the reason, with the number of a refusal, are on standard error; 2 if the words of the
 call are wrong.
-";
+"
+    )
+}
 
 pub enum Drawing {
     Svg,

@@ -4,12 +4,12 @@
 
 #include "steyrbunk.h"
 
-enum { ROOM = 4096 }; /* corners */
+enum { ROOM = 4096, SIDE = STEYRBUNK_GREATEST_SIDE }; /* corners, pixels */
 
 int main(void) {
     unsigned width, height, most;
-    if (scanf("P5 %u %u %u", &width, &height, &most) != 3 || most > 255 || width > 4096 || height > 4096) {
-        fprintf(stderr, "not an 8-bit PGM of at most 4096 by 4096\n");
+    if (scanf("P5 %u %u %u", &width, &height, &most) != 3 || most > 255 || width > SIDE || height > SIDE) {
+        fprintf(stderr, "not an 8-bit PGM of at most %d by %d\n", SIDE, SIDE);
         return 2;
     }
     getchar(); /* the one white space before the pixels */

@@ -10,7 +10,7 @@ use std::{env, fs};
 
 use common::{frame, image};
 use judge::{Frame, Kind};
-use steyrbunk::{Finder, Settings};
+use steyrbunk::{limits, Finder, PeakFit, Settings};
 
 /// The example as a program, with the sanitizers if this compiler has them; nothing without a compiler.
 fn compiled(name: &str) -> Option<PathBuf> {
@@ -107,15 +107,62 @@ fn the_example() {
     assert_eq!(run(&program, b"P5 0 0 255\n").stdout, b"0 corners\n");
 }
 
+fn read(name: &str) -> String {
+    let package = Path::new(env!("CARGO_MANIFEST_DIR"));
+    fs::read_to_string(package.join(name)).expect("it is there")
+}
+
 /// Name, order and type of every argument are the same in the header and in the Rust declarations.
 #[test]
 fn the_header_and_the_declarations() {
-    let package = Path::new(env!("CARGO_MANIFEST_DIR"));
-    let read = |name: &str| fs::read_to_string(package.join(name)).expect("it is there");
     let (header, raw) = (read("include/steyrbunk.h"), read("src/raw.rs"));
-    for name in ["steyrbunk_find", "steyrbunk_response", "steyrbunk_peaks"] {
-        assert_eq!(in_c(&header, name), in_rust(&raw, name));
+    for name in ["find", "response", "peaks"] {
+        let name = format!("steyrbunk_{name}");
+        assert_eq!(in_c(&header, "uint32_t ", &name), in_rust(&raw, &name));
     }
+    for name in ["steyrbunk_sqrt", "steyrbunk_ln"] {
+        assert_eq!(in_c(&header, "float ", name), in_rust(&raw, name));
+    }
+}
+
+/// The header's limits and defaults are Rust's.
+#[test]
+fn the_header_and_the_limits() {
+    let header = read("include/steyrbunk.h");
+    let defined = |name: &str| {
+        let value = header.split_once(&format!("#define STEYRBUNK_{name} "));
+        let value = value.expect("defined").1.split_whitespace().next();
+        value.expect("a value").to_string()
+    };
+    let Settings {
+        ray_radius,
+        image_upsample,
+        response_blur_radius,
+        peak_fit,
+        threshold_rel,
+        nms_radius,
+        min_cluster_size,
+    } = Settings::default();
+    for (name, value) in [
+        ("GREATEST_SIDE", limits::SIDE as u32),
+        ("GREATEST_WORKING_SIDE", limits::WORKING_SIDE as u32),
+        ("GREATEST_WORKING", limits::WORKING as u32),
+        ("GREATEST_RAY_RADIUS", limits::RAY),
+        ("GREATEST_BLUR_RADIUS", limits::BLUR),
+        ("GREATEST_NMS_RADIUS", limits::SUPPRESSION),
+        ("RAY_RADIUS", ray_radius),
+        ("IMAGE_UPSAMPLE", image_upsample),
+        ("RESPONSE_BLUR_RADIUS", response_blur_radius),
+        ("NMS_RADIUS", nms_radius),
+        ("MIN_CLUSTER_SIZE", min_cluster_size),
+        ("PARABOLIC", PeakFit::Parabolic.number().into()),
+        ("GAUSSIAN", PeakFit::Gaussian.number().into()),
+    ] {
+        assert_eq!(defined(name), format!("{value}u"), "{name}");
+    }
+    assert_eq!(defined("THRESHOLD_REL"), format!("{threshold_rel}f"));
+    assert_eq!(defined("PEAK_FIT"), "STEYRBUNK_GAUSSIAN");
+    assert_eq!(peak_fit, PeakFit::Gaussian);
 }
 
 /// What stands between a function's name and the end of its arguments.
@@ -130,9 +177,9 @@ fn arguments<'a>(text: &'a str, before: &str, name: &str) -> &'a str {
     &text[from..from + until.expect("closed")]
 }
 
-fn in_c(header: &str, name: &str) -> String {
+fn in_c(header: &str, result: &str, name: &str) -> String {
     let mut plain = String::new();
-    let mut rest = arguments(header, "uint32_t ", name);
+    let mut rest = arguments(header, result, name);
     while let Some((before, comment)) = rest.split_once("/*") {
         plain.push_str(before);
         rest = comment.split_once("*/").expect("a closed comment").1;
@@ -157,6 +204,18 @@ fn in_c(header: &str, name: &str) -> String {
     list
 }
 
+/// The arguments as they are written out, or as the macro for two entries puts them together.
+fn declared(raw: &str, name: &str) -> String {
+    let Some((_, call)) = raw.split_once(&format!("entry!({name}(")) else {
+        return arguments(raw, "pub fn ", name).to_string();
+    };
+    let own = call.split_once("));").expect("closed").0;
+    let (between, behind) = own.split_once(';').expect("two parts");
+    arguments(raw, "pub fn ", "$name")
+        .replace("$($between: $setting,)*", &format!("{between},"))
+        .replace("$($behind: $told),*", behind)
+}
+
 fn in_rust(raw: &str, name: &str) -> String {
     let mut list = String::new();
     let words = |kind: &str| match kind {
@@ -166,7 +225,7 @@ fn in_rust(raw: &str, name: &str) -> String {
         "f32" => "float",
         other => panic!("{other}"),
     };
-    for argument in arguments(raw, "pub fn ", name).split(',') {
+    for argument in declared(raw, name).split(',') {
         let Some((name, kind)) = argument.trim().split_once(": ") else {
             continue;
         };
