@@ -1,4 +1,4 @@
-//! Links the library of single passes, where `tools/passes` has built it.
+//! Links the library of single passes if `tools/passes` has built it.
 
 use std::env;
 use std::path::PathBuf;
@@ -7,7 +7,7 @@ use std::path::PathBuf;
 const VARIABLE: &str = "STEYRBUNK_PASSES";
 /// Where `tools/passes target/passes` leaves it.
 const DEFAULT: &str = "../../target/passes/target/staticlib";
-const ARCHIVE: &str = "libresponse.a";
+const ARCHIVE: &str = "libpasses.a";
 
 fn main() {
     println!("cargo:rustc-check-cfg=cfg(passes)");
@@ -19,7 +19,6 @@ fn main() {
     // The whole calls are timed without it; the table then says that the single passes are left out.
     if archive.is_file() {
         println!("cargo:rustc-link-search=native={}", folder.display());
-        println!("cargo:rustc-link-lib=static=response");
         println!("cargo:rustc-cfg=passes");
     }
 }

@@ -7,7 +7,7 @@ use std::{env, process};
 const VARIABLE: &str = "STEYRBUNK_LIB";
 /// Where `rt staticlib` leaves it.
 const DEFAULT: &str = "../../target/staticlib";
-const ARCHIVE: &str = "libsteyrbunk.a";
+const ARCHIVE: &str = "libsteyrbunk_c.a";
 
 fn main() {
     println!("cargo:rerun-if-env-changed={VARIABLE}");
@@ -21,13 +21,13 @@ fn main() {
             archive.display()
         );
         eprintln!(
-            "  tools/native-kit target/kit && RATTLE_HOME=$PWD/target/kit rt staticlib steyrbunk"
+            "  tools/native-kit target/kit && RATTLE_HOME=$PWD/target/kit rt staticlib steyrbunk_c"
         );
         eprintln!("or set {VARIABLE} to the folder that holds {ARCHIVE}.");
         process::exit(1);
     }
     println!("cargo:rustc-link-search=native={}", folder.display());
-    println!("cargo:rustc-link-lib=static=steyrbunk");
+    println!("cargo:rustc-link-lib=static=steyrbunk_c");
     // The tests link it into a C program as well.
     println!("cargo:rustc-env=STEYRBUNK_ARCHIVE={}", archive.display());
 }

@@ -5,18 +5,29 @@ use std::hint::black_box;
 use steyrbunk::lent::View;
 use steyrbunk::{Finder, Image, PeakFit, Settings};
 
-use crate::Pass;
+use crate::pass::Pass;
 
 /// A program with its own buffers, which it keeps.
 pub trait Side {
-    /// Makes everything once, so that the list has a map, and tells how many corners there are.
+    /// Makes everything once, so that each pass has what it goes by, and tells how many corners there are.
     fn count(&mut self) -> usize;
-    /// One timed call.
+    /// One timed call. A blur goes on from what the call before it left.
     fn call(&mut self, pass: Pass);
+    /// The response as it stands.
+    fn response(&self) -> &[f32];
+}
+
+/// Ours, the Rust by default, the Rust with u32 tables.
+pub fn sides<'a>(image: Image<'a>, settings: Settings) -> [Box<dyn Side + 'a>; 3] {
+    [
+        Box::new(Ours::new(image, settings)),
+        Box::new(Default64::new(image, settings)),
+        Box::new(Tables32::new(image, settings)),
+    ]
 }
 
 /// The static library through its wrapper, whose list grows in the first call.
-pub struct Ours<'a> {
+struct Ours<'a> {
     image: Image<'a>,
     settings: Settings,
     finder: Finder,
@@ -27,7 +38,7 @@ pub struct Ours<'a> {
 type OwnMap = (Vec<u8>, Vec<f32>, usize, usize);
 
 impl<'a> Ours<'a> {
-    pub fn new(image: Image<'a>, settings: Settings) -> Self {
+    fn new(image: Image<'a>, settings: Settings) -> Self {
         Ours {
             image,
             settings,
@@ -39,6 +50,24 @@ impl<'a> Ours<'a> {
     fn whole(&mut self) -> usize {
         let found = self.finder.find(self.image, &self.settings);
         found.expect("an accepted frame").corners.len()
+    }
+
+    #[cfg(passes)]
+    fn single(&mut self, pass: Pass) {
+        use crate::passes;
+        let map = self.finder.map();
+        let (sides, settings) = ((map.width, map.height), &self.settings);
+        let lent = self.finder.lend();
+        match pass {
+            Pass::Upsample => passes::upsample(self.image, settings, lent),
+            Pass::Rays => passes::rays(sides, settings, lent),
+            _ => passes::blur(sides, settings, lent),
+        }
+    }
+
+    #[cfg(not(passes))]
+    fn single(&mut self, _: Pass) {
+        unreachable!("the single passes are left out")
     }
 }
 
@@ -73,7 +102,12 @@ impl Side for Ours<'_> {
             Pass::Whole => {
                 black_box(self.whole());
             }
+            single => self.single(single),
         }
+    }
+
+    fn response(&self) -> &[f32] {
+        self.finder.map().response
     }
 }
 
@@ -81,7 +115,7 @@ impl Side for Ours<'_> {
 macro_rules! original {
     ($(#[$about:meta])* $name:ident, $build:ident) => {
         $(#[$about])*
-        pub struct $name<'a> {
+        struct $name<'a> {
             image: Image<'a>,
             params: $build::original::RadonDetectorParams,
             buffers: $build::original::RadonBuffers,
@@ -89,7 +123,7 @@ macro_rules! original {
         }
 
         impl<'a> $name<'a> {
-            pub fn new(image: Image<'a>, settings: Settings) -> Self {
+            fn new(image: Image<'a>, settings: Settings) -> Self {
                 let mut params = $build::original::RadonDetectorParams::default();
                 params.ray_radius = settings.ray_radius;
                 params.image_upsample = settings.image_upsample;
@@ -118,27 +152,37 @@ macro_rules! original {
 
         impl Side for $name<'_> {
             fn count(&mut self) -> usize {
-                let view = self.map();
-                let (response, working) = $build::original::parts(&view);
-                let map = (working.to_vec(), response.to_vec(), view.width(), view.height());
-                self.map = Some(map);
-                self.whole()
+                let count = self.whole();
+                let map = $build::original::map(&self.buffers);
+                self.map = Some((map.working.to_vec(), map.response.to_vec(), map.w, map.h));
+                count
             }
 
             fn call(&mut self, pass: Pass) {
+                let Image { pixels, width, height } = self.image;
+                let (params, buffers) = (&self.params, &mut self.buffers);
                 match pass {
+                    Pass::Upsample => {
+                        $build::original::upsample(pixels, width, height, params.image_upsample, buffers)
+                    }
+                    Pass::Rays => $build::original::rays(params.ray_radius as usize, buffers),
+                    Pass::Blur(_) => $build::original::blur(params.response_blur_radius as usize, buffers),
                     Pass::Map(_) => {
                         black_box(self.map());
                     }
                     Pass::List => {
                         let (working, response, w, h) = self.map.as_ref().expect("counted before");
                         let view = $build::original::view(response, working, *w, *h);
-                        black_box($build::original::detect_peaks_from_radon(&view, &self.params));
+                        black_box($build::original::detect_peaks_from_radon(&view, params));
                     }
                     Pass::Whole => {
                         black_box(self.whole());
                     }
                 }
+            }
+
+            fn response(&self) -> &[f32] {
+                $build::original::map(&self.buffers).response
             }
         }
     };

@@ -10,9 +10,8 @@ use steyrbunk::{Corner, Map};
 /// Upper ends of the curvatures by which distances are counted; the last class has none.
 pub const CURVATURES: [f64; 7] = [1e-6, 1e-5, 1e-4, 1e-3, 1e-2, 1e-1, 1.0];
 
-/// Greatest distance in working pixels times curvature that is allowed, if the caller names none. It is
-/// twice 2.5e-6, the greatest of a million made frames (seed 1) when the logarithm's definition, written
-/// out in Rust, was held against the platform's `ln`. The static library itself is still to be measured.
+/// Greatest distance in working pixels times curvature that is allowed, if the caller names none: twice
+/// the greatest of a million made frames (docs/DIFFERENCES.md).
 pub const BOUND: f64 = 5e-6;
 
 /// Coordinates that are not equal, and the greatest distance among them in input pixels and steps of an f32.

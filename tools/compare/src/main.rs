@@ -21,8 +21,7 @@ Answers, working image, tables, map, scratch and list must be equal to the bit. 
 Gaussian corners may differ: by the bound divided by the peak's curvature (the second difference of
 three logarithms) in working pixels, at most by one pixel, and by one step of an f32.
 
-  --max-side M     made frames with sides up to M; without it they have the program's size, up to
-                   2,304 working pixels
+  --max-side M     made frames with sides up to M; without it they have the program's size
   --bound B        the bound for Gaussian places (default 5e-6)
   --lists          prints both lists of each frame
   --each           prints a line for each made frame; for files this is done anyway

@@ -141,20 +141,13 @@ fn maps(theirs: original::Map, ours: Map) -> Vec<Difference> {
     // Where the map is not blurred the scratch is an older frame's, and ours is empty.
     let scratch = &theirs.scratch[..ours.blur_scratch.len()];
     let first = |what, theirs, ours: &[u32]| first(what, sizes.1 .0, theirs, ours);
+    let [row, col, falling, rising] = theirs.tables.map(sums);
     let entries = [
         first(What::Working, bytes(theirs.working), &bytes(ours.working)),
-        first(What::RowTable, sums(theirs.row), ours.row_cumsum),
-        first(What::ColumnTable, sums(theirs.col), ours.col_cumsum),
-        first(
-            What::FallingTable,
-            sums(theirs.diag_pos),
-            ours.diag_pos_cumsum,
-        ),
-        first(
-            What::RisingTable,
-            sums(theirs.diag_neg),
-            ours.diag_neg_cumsum,
-        ),
+        first(What::RowTable, row, ours.row_cumsum),
+        first(What::ColumnTable, col, ours.col_cumsum),
+        first(What::FallingTable, falling, ours.diag_pos_cumsum),
+        first(What::RisingTable, rising, ours.diag_neg_cumsum),
         first(What::Response, bits(theirs.response), &bits(ours.response)),
         first(What::Scratch, bits(scratch), &bits(ours.blur_scratch)),
     ];

@@ -4,13 +4,13 @@ use std::path::PathBuf;
 use std::thread::available_parallelism;
 
 use console::{Usage, Word, Words};
-use frames::{Named, SETTINGS_HELP};
+use frames::{settings_help, Named};
 
 use crate::output::Format;
 
 /// The help, with the settings that all commands share.
 pub fn help() -> String {
-    HELP.replace("SETTINGS\n", SETTINGS_HELP)
+    HELP.replace("SETTINGS\n", &settings_help())
 }
 
 const HELP: &str = "\

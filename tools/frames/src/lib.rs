@@ -6,5 +6,5 @@ mod open;
 mod pgm;
 
 pub use kinds::{kind, Kind};
-pub use named::{Named, SETTINGS_HELP};
+pub use named::{settings_help, Named};
 pub use open::{open, read, Problem};

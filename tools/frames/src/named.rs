@@ -3,16 +3,31 @@
 use console::{Usage, Words};
 use steyrbunk::{PeakFit, Settings};
 
-pub const SETTINGS_HELP: &str = "\
+/// What a help says of the settings, with limits and defaults from where they are said.
+pub fn settings_help() -> String {
+    let Settings {
+        ray_radius: ray,
+        image_upsample: up,
+        response_blur_radius: blur,
+        threshold_rel: threshold,
+        nms_radius: window,
+        min_cluster_size: least,
+        ..
+    } = Settings::default();
+    let (rays, blurs, windows) = (limits::RAY, limits::BLUR, limits::SUPPRESSION);
+    format!(
+        "\
 Settings, for PGM pictures; a frame file has its own
-  --ray-radius N             0 to 7, default 4; half length of the rays, in working pixels
-  --image-upsample N         1 or 2, default 2; working pixels along an input pixel
-  --response-blur-radius N   0 to 3, default 1
+  --ray-radius N             0 to {rays}, default {ray}; half length of the rays, in working pixels
+  --image-upsample N         1 or 2, default {up}; working pixels along an input pixel
+  --response-blur-radius N   0 to {blurs}, default {blur}
   --peak-fit NAME            parabolic or gaussian, default gaussian
-  --threshold-rel F          0 to 1, default 0.28; a part of the frame's strongest response
-  --nms-radius N             0 to 32, default 4; half size of the window a corner must win
-  --min-cluster-size N       default 2; positive neighbours that a corner must have
-";
+  --threshold-rel F          0 to 1, default {threshold}; a part of the frame's strongest response
+  --nms-radius N             0 to {windows}, default {window}; half size of the window a corner must win
+  --min-cluster-size N       default {least}; positive neighbours that a corner must have
+"
+    )
+}
 
 /// The settings that the call names.
 #[derive(Default, Clone, Copy, PartialEq)]

@@ -12,10 +12,8 @@ pub struct Map<'a> {
     pub w: usize,
     pub h: usize,
     pub working: &'a [u8],
-    pub row: &'a [SatElem],
-    pub col: &'a [SatElem],
-    pub diag_pos: &'a [SatElem],
-    pub diag_neg: &'a [SatElem],
+    /// Along rows, down columns, falling, rising.
+    pub tables: [&'a [SatElem]; 4],
     pub response: &'a [f32],
     pub scratch: &'a [f32],
 }
@@ -25,10 +23,12 @@ pub fn map(buffers: &RadonBuffers) -> Map<'_> {
         w: buffers.working_w,
         h: buffers.working_h,
         working: &buffers.working,
-        row: &buffers.row_cumsum,
-        col: &buffers.col_cumsum,
-        diag_pos: &buffers.diag_pos_cumsum,
-        diag_neg: &buffers.diag_neg_cumsum,
+        tables: [
+            &buffers.row_cumsum,
+            &buffers.col_cumsum,
+            &buffers.diag_pos_cumsum,
+            &buffers.diag_neg_cumsum,
+        ],
         response: &buffers.response,
         scratch: &buffers.blur_scratch,
     }

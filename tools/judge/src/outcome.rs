@@ -56,15 +56,16 @@ impl Detector {
 pub fn run(frame: &Frame) -> Outcome {
     let mut detector = Detector::new();
     let Found { map, corners } = detector.find(frame);
+    let [row, col, diag_pos, diag_neg] = map.tables.map(sums);
     let blurred = frame.blur != 0 && !map.response.is_empty();
     Outcome {
         w: map.w,
         h: map.h,
         working: map.working.to_vec(),
-        row: sums(map.row),
-        col: sums(map.col),
-        diag_pos: sums(map.diag_pos),
-        diag_neg: sums(map.diag_neg),
+        row,
+        col,
+        diag_pos,
+        diag_neg,
         response: map.response.to_vec(),
         scratch: blurred.then(|| map.scratch.to_vec()),
         corners,

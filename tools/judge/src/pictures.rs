@@ -77,6 +77,16 @@ fn levels(random: &mut Random) -> (f64, f64) {
     (low as f64, (low + step) as f64)
 }
 
+/// Ground and what is drawn on it: a dark ground so many times in a hundred.
+fn ground(random: &mut Random, dark_grounds: usize) -> (f64, f64) {
+    let (dark, bright) = levels(random);
+    if random.percent(dark_grounds) {
+        (dark, bright)
+    } else {
+        (bright, dark)
+    }
+}
+
 fn each(w: usize, h: usize, mut pixel: impl FnMut(f64, f64) -> f64) -> Vec<u8> {
     let mut out = Vec::with_capacity(w * h);
     for y in 0..h {
@@ -176,12 +186,7 @@ fn plateau(random: &mut Random, w: usize, h: usize) -> Vec<u8> {
 
 /// Thin lines, along the rays and across them.
 fn lines(random: &mut Random, w: usize, h: usize) -> Vec<u8> {
-    let (dark, bright) = levels(random);
-    let (ground, ink) = if random.percent(50) {
-        (dark, bright)
-    } else {
-        (bright, dark)
-    };
+    let (ground, ink) = ground(random, 50);
     let count = random.range(1, 5);
     let drawn: Vec<[f64; 4]> = (0..count).map(|_| line(random, w, h)).collect();
     each(w, h, |x, y| {
@@ -240,12 +245,7 @@ fn gradient(random: &mut Random, w: usize, h: usize) -> Vec<u8> {
 
 /// Single pixels, bright on dark or dark on bright.
 fn dots(random: &mut Random, w: usize, h: usize) -> Vec<u8> {
-    let (dark, bright) = levels(random);
-    let (ground, dot) = if random.percent(70) {
-        (dark, bright)
-    } else {
-        (bright, dark)
-    };
+    let (ground, dot) = ground(random, 70);
     let mut image = vec![ground as u8; w * h];
     for _ in 0..random.range(1, 8) {
         let at = random.below(w * h);

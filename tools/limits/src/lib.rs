@@ -1,4 +1,5 @@
-//! Document 01's limits, said once for all tools. The C header says them for C; a test holds the two together.
+//! Document 01's limits, said once for all tools. The C header says them for C, and the wrapper's sentences name them;
+//! tests hold these to what stands here, and write the document's numbers out where they try the library.
 
 /// Input pixels along a side.
 pub const SIDE: usize = 4_096;

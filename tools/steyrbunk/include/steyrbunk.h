@@ -1,8 +1,9 @@
-/* steyrbunk.h: the proved Radon corner finder, as a static library (libsteyrbunk.a).
+/* steyrbunk.h: the proved Radon corner finder, as a static library (libsteyrbunk_c.a).
  *
- * Three functions. steyrbunk_find does everything; steyrbunk_response makes the map alone, and
- * steyrbunk_peaks makes the list of a map. They allocate nothing, keep nothing between calls, and
- * may run at the same time on different buffers. The caller lends every buffer.
+ * steyrbunk_find does everything; steyrbunk_response makes the map alone, and steyrbunk_peaks makes
+ * the list of a map. They allocate nothing, keep nothing between calls, and may run at the same time
+ * on different buffers. The caller lends every buffer. steyrbunk_sqrt and steyrbunk_ln are the root
+ * and the logarithm that they take.
  *
  * Words used below
  *   factor       1 or 2: image_upsample, where 0 counts as 1, and 3 or more as 2
@@ -19,12 +20,12 @@
  * Answers. The lowest number of 2 to 9 that applies is given; 14 comes before them.
  *    0  accepted, all corners are in the list
  *    1  accepted, more corners than the list has room for: it holds the opening ones
- *    2  width or height is over 4,096
+ *    2  width or height is over STEYRBUNK_GREATEST_SIDE
  *    3  image_len is not width times height
- *    4  W*H is over 8,388,608
- *    5  ray_radius is over 7
- *    6  response_blur_radius is over 3
- *    7  nms_radius is over 32
+ *    4  W*H is over STEYRBUNK_GREATEST_WORKING
+ *    5  ray_radius is over STEYRBUNK_GREATEST_RAY_RADIUS
+ *    6  response_blur_radius is over STEYRBUNK_GREATEST_BLUR_RADIUS
+ *    7  nms_radius is over STEYRBUNK_GREATEST_NMS_RADIUS
  *    8  threshold_rel is NaN, below 0 or above 1
  *    9  a lent buffer other than the list is too short
  *   14  peak_fit is above 1
@@ -38,6 +39,14 @@
 #ifdef __cplusplus
 extern "C" {
 #endif
+
+/* The greatest sizes and radii. */
+#define STEYRBUNK_GREATEST_SIDE 4096u          /* of an image, in pixels */
+#define STEYRBUNK_GREATEST_WORKING_SIDE 8192u  /* of a map */
+#define STEYRBUNK_GREATEST_WORKING 8388608u    /* pixels of a map */
+#define STEYRBUNK_GREATEST_RAY_RADIUS 7u       /* radii in working pixels */
+#define STEYRBUNK_GREATEST_BLUR_RADIUS 3u
+#define STEYRBUNK_GREATEST_NMS_RADIUS 32u
 
 /* The default settings. */
 #define STEYRBUNK_RAY_RADIUS 4u
@@ -55,13 +64,13 @@ extern "C" {
 /* Map and list of an image. Answers 0 to 9 and 14. */
 uint32_t steyrbunk_find(
     const uint8_t *image, size_t image_len, /* pixels, 0 to 255, row after row; width times height of them */
-    size_t width, size_t height,            /* of the image, 0 to 4,096 each; a side of 0 finds nothing */
-    uint32_t ray_radius,                    /* half length of the four rays in working pixels, 0 to 7; 0 counts as 1 */
+    size_t width, size_t height,            /* of the image; a side of 0 finds nothing */
+    uint32_t ray_radius,                    /* half length of the four rays in working pixels; 0 counts as 1 */
     uint32_t image_upsample,                /* the factor: 0 counts as 1, 3 or more as 2 */
-    uint32_t response_blur_radius,          /* half size of the box that blurs the map, 0 to 3; 0 leaves it sharp */
+    uint32_t response_blur_radius,          /* half size of the box that blurs the map; 0 leaves it sharp */
     uint32_t peak_fit,                      /* 0 parabolic, 1 Gaussian: how a place between pixels is fitted */
     float threshold_rel,                    /* 0.0 to 1.0: corners are stronger than this part of the map's maximum */
-    uint32_t nms_radius,                    /* half size of the window that a corner is the greatest of, 0 to 32 working pixels */
+    uint32_t nms_radius,                    /* half size of the window that a corner is the greatest of, in working pixels */
     uint32_t min_cluster_size,              /* positive values that this window must hold beside the corner's own */
     uint8_t *working, size_t working_len,   /* gets the image at working resolution */
     uint32_t *row_cumsum, size_t row_cumsum_len,           /* gets running sums along rows, */
@@ -96,15 +105,15 @@ uint32_t steyrbunk_response(
 );
 
 /* The list of a map, which is only read. Settings and list are those of steyrbunk_find.
- * Answers 0 and 1; 2 for w or h over 8,192; 4 for w*h over 8,388,608; 5 to 8; 9 for a response or an
- * image shorter than w*h; 14. */
+ * Answers 0 and 1; 2 for w or h over STEYRBUNK_GREATEST_WORKING_SIDE; 4 for w*h over
+ * STEYRBUNK_GREATEST_WORKING; 5 to 8; 9 for a response or an image shorter than w*h; 14. */
 uint32_t steyrbunk_peaks(
     const float *response, size_t response_len, /* the map, as steyrbunk_response left it */
     const uint8_t *image, size_t image_len,     /* the working image that belongs to it */
     size_t w, size_t h,                         /* W and H of both */
     uint32_t ray_radius,
     uint32_t image_upsample,                    /* places are divided by the factor */
-    uint32_t response_blur_radius,              /* not used, but refused over 3 */
+    uint32_t response_blur_radius,              /* not used, but refused where it is too great */
     uint32_t peak_fit,
     float threshold_rel,
     uint32_t nms_radius,
@@ -112,6 +121,12 @@ uint32_t steyrbunk_peaks(
     float *list, size_t list_len,
     size_t *count
 );
+
+/* The nearest float to the root of a finite number from +0 up; NaN of any other. */
+float steyrbunk_sqrt(float x);
+
+/* Document 01's logarithm of a number from 2^-6 to 2^24; NaN of any other. */
+float steyrbunk_ln(float x);
 
 #ifdef __cplusplus
 }

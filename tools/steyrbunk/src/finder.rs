@@ -204,6 +204,11 @@ impl Finder {
         self.buffers.map(self.last)
     }
 
+    /// The buffers of the last image, for a pass of the caller's own.
+    pub fn lend(&mut self) -> lent::Buffers<'_> {
+        self.buffers.lend()
+    }
+
     fn prepare(&mut self, image: Image, settings: &Settings) {
         self.last = Sizes::default();
         self.buffers.grow(working_pixels(image, settings.factor()));

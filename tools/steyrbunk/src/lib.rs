@@ -1,7 +1,8 @@
 //! The proved corner finder for a host that owns memory: safe calls, an owned list, typed refusals.
 //!
 //! [`Finder`] keeps the buffers, 25 bytes a working pixel, from frame to frame. [`lent`] is the layer
-//! beneath it, where the caller lends each buffer; [`raw`] is the C interface itself.
+//! beneath it, where the caller lends each buffer; [`raw`] is the C interface itself. [`limits`] has the
+//! greatest sizes and radii, [`scalar`] the finder's root and logarithm.
 
 mod finder;
 pub mod frame;
@@ -9,10 +10,12 @@ pub mod lent;
 mod printed;
 pub mod raw;
 mod refusal;
+pub mod scalar;
 mod settings;
 
 pub use finder::{Corner, Finder, Found, Map};
 pub use lent::Image;
+pub use limits;
 pub use printed::printed;
 pub use refusal::Refusal;
 pub use settings::{PeakFit, Settings};

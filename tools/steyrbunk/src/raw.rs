@@ -1,65 +1,45 @@
 //! The C interface of the static library, argument for argument as in `include/steyrbunk.h`.
 
+/// An entry that takes an image and the buffers; what else it takes stands between them and behind.
+macro_rules! entry {
+    ($name:ident($($between:ident: $setting:ty),*; $($behind:ident: $told:ty),*)) => {
+        extern "C" {
+            pub fn $name(
+                image: *const u8,
+                image_len: usize,
+                width: usize,
+                height: usize,
+                ray_radius: u32,
+                image_upsample: u32,
+                response_blur_radius: u32,
+                $($between: $setting,)*
+                working: *mut u8,
+                working_len: usize,
+                row_cumsum: *mut u32,
+                row_cumsum_len: usize,
+                col_cumsum: *mut u32,
+                col_cumsum_len: usize,
+                diag_pos_cumsum: *mut u32,
+                diag_pos_cumsum_len: usize,
+                diag_neg_cumsum: *mut u32,
+                diag_neg_cumsum_len: usize,
+                response: *mut f32,
+                response_len: usize,
+                blur_scratch: *mut f32,
+                blur_scratch_len: usize,
+                $($behind: $told),*
+            ) -> u32;
+        }
+    };
+}
+
+entry!(steyrbunk_find(
+    peak_fit: u32, threshold_rel: f32, nms_radius: u32, min_cluster_size: u32;
+    list: *mut f32, list_len: usize, count: *mut usize, w: *mut usize, h: *mut usize));
+
+entry!(steyrbunk_response(; w: *mut usize, h: *mut usize));
+
 extern "C" {
-    pub fn steyrbunk_find(
-        image: *const u8,
-        image_len: usize,
-        width: usize,
-        height: usize,
-        ray_radius: u32,
-        image_upsample: u32,
-        response_blur_radius: u32,
-        peak_fit: u32,
-        threshold_rel: f32,
-        nms_radius: u32,
-        min_cluster_size: u32,
-        working: *mut u8,
-        working_len: usize,
-        row_cumsum: *mut u32,
-        row_cumsum_len: usize,
-        col_cumsum: *mut u32,
-        col_cumsum_len: usize,
-        diag_pos_cumsum: *mut u32,
-        diag_pos_cumsum_len: usize,
-        diag_neg_cumsum: *mut u32,
-        diag_neg_cumsum_len: usize,
-        response: *mut f32,
-        response_len: usize,
-        blur_scratch: *mut f32,
-        blur_scratch_len: usize,
-        list: *mut f32,
-        list_len: usize,
-        count: *mut usize,
-        w: *mut usize,
-        h: *mut usize,
-    ) -> u32;
-
-    pub fn steyrbunk_response(
-        image: *const u8,
-        image_len: usize,
-        width: usize,
-        height: usize,
-        ray_radius: u32,
-        image_upsample: u32,
-        response_blur_radius: u32,
-        working: *mut u8,
-        working_len: usize,
-        row_cumsum: *mut u32,
-        row_cumsum_len: usize,
-        col_cumsum: *mut u32,
-        col_cumsum_len: usize,
-        diag_pos_cumsum: *mut u32,
-        diag_pos_cumsum_len: usize,
-        diag_neg_cumsum: *mut u32,
-        diag_neg_cumsum_len: usize,
-        response: *mut f32,
-        response_len: usize,
-        blur_scratch: *mut f32,
-        blur_scratch_len: usize,
-        w: *mut usize,
-        h: *mut usize,
-    ) -> u32;
-
     pub fn steyrbunk_peaks(
         response: *const f32,
         response_len: usize,
@@ -78,4 +58,8 @@ extern "C" {
         list_len: usize,
         count: *mut usize,
     ) -> u32;
+
+    pub fn steyrbunk_sqrt(x: f32) -> f32;
+
+    pub fn steyrbunk_ln(x: f32) -> f32;
 }

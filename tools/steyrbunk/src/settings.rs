@@ -30,16 +30,16 @@ impl PeakFit {
 /// Radii are working-resolution pixels. What is out of range is refused by the call, not here.
 #[derive(Clone, Copy, Debug, PartialEq)]
 pub struct Settings {
-    /// 0 to 7; 0 counts as 1.
+    /// Up to [`limits::RAY`]; 0 counts as 1.
     pub ray_radius: u32,
     /// 0 counts as 1, 3 or more as 2.
     pub image_upsample: u32,
-    /// 0 to 3; 0 leaves the map unblurred.
+    /// Up to [`limits::BLUR`]; 0 leaves the map unblurred.
     pub response_blur_radius: u32,
     pub peak_fit: PeakFit,
     /// 0.0 to 1.0: the floor as a fraction of the map's maximum.
     pub threshold_rel: f32,
-    /// 0 to 32.
+    /// Up to [`limits::SUPPRESSION`].
     pub nms_radius: u32,
     /// Positive values that a corner's window must hold beside its own.
     pub min_cluster_size: u32,

@@ -10,10 +10,15 @@ use std::{env, fs};
 
 use common::{frame, image};
 use judge::{Frame, Kind};
-use steyrbunk::{Finder, Settings};
+use steyrbunk::{limits, Finder, PeakFit, Settings};
 
-/// The example as a program, with the sanitizers if this compiler has them; nothing without a compiler.
+/// The example as a program.
 fn compiled(name: &str) -> Option<PathBuf> {
+    built(name, "examples/corners.c")
+}
+
+/// A C file as a program, with the sanitizers if this compiler has them; nothing without a compiler.
+fn built(name: &str, file: &str) -> Option<PathBuf> {
     let package = Path::new(env!("CARGO_MANIFEST_DIR"));
     let program = Path::new(env!("CARGO_TARGET_TMPDIR")).join(name);
     let with = |flags: &[&str]| {
@@ -29,7 +34,7 @@ fn compiled(name: &str) -> Option<PathBuf> {
         .args(flags);
         cc.arg("-I")
             .arg(package.join("include"))
-            .arg(package.join("examples/corners.c"));
+            .arg(package.join(file));
         cc.arg(env!("STEYRBUNK_ARCHIVE"))
             .args(["-lm", "-o"])
             .arg(&program)
@@ -102,20 +107,135 @@ fn the_example() {
     let output = run(&program, &cut);
     assert_eq!(
         (output.stdout.as_slice(), output.stderr.as_slice()),
-        (&b""[..], &b"refused 3\n"[..])
+        (
+            &b""[..],
+            &b"refused 3: the number of pixels is not width times height\n"[..]
+        )
     );
     assert_eq!(run(&program, b"P5 0 0 255\n").stdout, b"0 corners\n");
+    let commented = pgm(&board);
+    let commented = [b"P5 # grey\n# by a camera", &commented[2..]].concat();
+    assert_eq!(run(&program, &commented).stdout, run(&program, &pgm(&board)).stdout);
+    let output = run(&program, b"P5 4097 1 255\n");
+    assert!(output.stderr.starts_with(b"refused 2: ") && output.status.code() == Some(1));
+    for damaged in [&b""[..], b"P6 1 1 255\n123", b"P5", b"P5 7 x", b"P5 1 1 256\n12", b"P5 1 1 255"] {
+        let output = run(&program, damaged);
+        assert_eq!((output.status.code(), output.stdout.len()), (Some(2), 0), "{damaged:?}");
+    }
+    // More corners than the example has room for: it says that its list is cut.
+    let (width, height) = (1024, 1024);
+    let shade = |at: usize| if (at % width / 5 + at / width / 5) % 2 == 0 { 40 } else { 190 };
+    let mut many = format!("P5 {width} {height} 255\n").into_bytes();
+    many.extend((0..width * height).map(shade));
+    let output = run(&program, &many);
+    let text = String::from_utf8(output.stdout).expect("text");
+    let first: usize = text.split(' ').next().expect("a count").parse().expect("a number");
+    assert!(first > 4096 && text.lines().count() == 1 + 4096, "{first}");
+    assert_eq!(output.stderr, b"the list is cut: there is room for 4096 corners\n");
+}
+
+/// Every answer through the header's easy calls, over workspaces of every length about the right one.
+#[test]
+fn the_easy_calls() {
+    let Some(program) = built("easy", "tests/easy.c") else {
+        eprintln!("no C compiler: skipped");
+        return;
+    };
+    let output = run(&program, b"");
+    let text = String::from_utf8_lossy(&output.stdout).into_owned();
+    assert!(output.status.success(), "{text}{}", String::from_utf8_lossy(&output.stderr));
+    assert_eq!(text, "all answers as they should be\n");
+    let (header, table) = (read("include/steyrbunk_easy.h"), read("src/refusal.rs"));
+    for line in table.lines().filter(|line| line.trim_start().starts_with('(')) {
+        let Some((_, words)) = line.split_once('"') else { continue };
+        let number: u32 = line.trim_start_matches([' ', '(']).split(',').next().expect("a number").parse().expect("digits");
+        if !(10..=13).contains(&number) {
+            assert!(header.contains(words.split('"').next().expect("closed")), "{number}");
+        }
+    }
+}
+
+/// Python over a shared library that the documented line builds.
+#[test]
+fn python() {
+    let (package, folder) = (Path::new(env!("CARGO_MANIFEST_DIR")), Path::new(env!("CARGO_TARGET_TMPDIR")));
+    let library = folder.join("libsteyrbunk.so");
+    let command = package.join("../target/release/steyrbunk");
+    let linked = Command::new("cc")
+        .args(["-shared", "-o"])
+        .arg(&library)
+        .args(["-Wl,--whole-archive", env!("STEYRBUNK_ARCHIVE"), "-Wl,--no-whole-archive"])
+        .output();
+    let linked = linked.expect("a C compiler");
+    assert!(linked.status.success(), "{}", String::from_utf8_lossy(&linked.stderr));
+    assert!(command.exists(), "build the command first: cargo build --offline --release -p fitters");
+    let output = Command::new("python3")
+        .arg(package.join("../../python/test_steyrbunk.py"))
+        .arg(&command)
+        .arg(folder)
+        .env("STEYRBUNK_SO", &library)
+        .output();
+    let output = output.expect("python3");
+    let (text, error) = (String::from_utf8_lossy(&output.stdout), String::from_utf8_lossy(&output.stderr));
+    assert!(output.status.success() && text.ends_with("checks pass\n"), "{text}{error}");
+}
+
+fn read(name: &str) -> String {
+    let package = Path::new(env!("CARGO_MANIFEST_DIR"));
+    fs::read_to_string(package.join(name)).expect("it is there")
 }
 
 /// Name, order and type of every argument are the same in the header and in the Rust declarations.
 #[test]
 fn the_header_and_the_declarations() {
-    let package = Path::new(env!("CARGO_MANIFEST_DIR"));
-    let read = |name: &str| fs::read_to_string(package.join(name)).expect("it is there");
     let (header, raw) = (read("include/steyrbunk.h"), read("src/raw.rs"));
-    for name in ["steyrbunk_find", "steyrbunk_response", "steyrbunk_peaks"] {
-        assert_eq!(in_c(&header, name), in_rust(&raw, name));
+    for name in ["find", "response", "peaks"] {
+        let name = format!("steyrbunk_{name}");
+        assert_eq!(in_c(&header, "uint32_t ", &name), in_rust(&raw, &name));
     }
+    for name in ["steyrbunk_sqrt", "steyrbunk_ln"] {
+        assert_eq!(in_c(&header, "float ", name), in_rust(&raw, name));
+    }
+}
+
+/// The header's limits and defaults are Rust's.
+#[test]
+fn the_header_and_the_limits() {
+    let header = read("include/steyrbunk.h");
+    let defined = |name: &str| {
+        let value = header.split_once(&format!("#define STEYRBUNK_{name} "));
+        let value = value.expect("defined").1.split_whitespace().next();
+        value.expect("a value").to_string()
+    };
+    let Settings {
+        ray_radius,
+        image_upsample,
+        response_blur_radius,
+        peak_fit,
+        threshold_rel,
+        nms_radius,
+        min_cluster_size,
+    } = Settings::default();
+    for (name, value) in [
+        ("GREATEST_SIDE", limits::SIDE as u32),
+        ("GREATEST_WORKING_SIDE", limits::WORKING_SIDE as u32),
+        ("GREATEST_WORKING", limits::WORKING as u32),
+        ("GREATEST_RAY_RADIUS", limits::RAY),
+        ("GREATEST_BLUR_RADIUS", limits::BLUR),
+        ("GREATEST_NMS_RADIUS", limits::SUPPRESSION),
+        ("RAY_RADIUS", ray_radius),
+        ("IMAGE_UPSAMPLE", image_upsample),
+        ("RESPONSE_BLUR_RADIUS", response_blur_radius),
+        ("NMS_RADIUS", nms_radius),
+        ("MIN_CLUSTER_SIZE", min_cluster_size),
+        ("PARABOLIC", PeakFit::Parabolic.number().into()),
+        ("GAUSSIAN", PeakFit::Gaussian.number().into()),
+    ] {
+        assert_eq!(defined(name), format!("{value}u"), "{name}");
+    }
+    assert_eq!(defined("THRESHOLD_REL"), format!("{threshold_rel}f"));
+    assert_eq!(defined("PEAK_FIT"), "STEYRBUNK_GAUSSIAN");
+    assert_eq!(peak_fit, PeakFit::Gaussian);
 }
 
 /// What stands between a function's name and the end of its arguments.
@@ -130,9 +250,9 @@ fn arguments<'a>(text: &'a str, before: &str, name: &str) -> &'a str {
     &text[from..from + until.expect("closed")]
 }
 
-fn in_c(header: &str, name: &str) -> String {
+fn in_c(header: &str, result: &str, name: &str) -> String {
     let mut plain = String::new();
-    let mut rest = arguments(header, "uint32_t ", name);
+    let mut rest = arguments(header, result, name);
     while let Some((before, comment)) = rest.split_once("/*") {
         plain.push_str(before);
         rest = comment.split_once("*/").expect("a closed comment").1;
@@ -157,6 +277,18 @@ fn in_c(header: &str, name: &str) -> String {
     list
 }
 
+/// The arguments as they are written out, or as the macro for two entries puts them together.
+fn declared(raw: &str, name: &str) -> String {
+    let Some((_, call)) = raw.split_once(&format!("entry!({name}(")) else {
+        return arguments(raw, "pub fn ", name).to_string();
+    };
+    let own = call.split_once("));").expect("closed").0;
+    let (between, behind) = own.split_once(';').expect("two parts");
+    arguments(raw, "pub fn ", "$name")
+        .replace("$($between: $setting,)*", &format!("{between},"))
+        .replace("$($behind: $told),*", behind)
+}
+
 fn in_rust(raw: &str, name: &str) -> String {
     let mut list = String::new();
     let words = |kind: &str| match kind {
@@ -166,7 +298,7 @@ fn in_rust(raw: &str, name: &str) -> String {
         "f32" => "float",
         other => panic!("{other}"),
     };
-    for argument in arguments(raw, "pub fn ", name).split(',') {
+    for argument in declared(raw, name).split(',') {
         let Some((name, kind)) = argument.trim().split_once(": ") else {
             continue;
         };

@@ -5,7 +5,7 @@ mod common;
 use common::{frame, image, Lent, DOCUMENT};
 use judge::{document_frame, Kind};
 use steyrbunk::lent::{self, Answer, Buffers, View};
-use steyrbunk::{Finder, Image, Refusal, Settings};
+use steyrbunk::{limits, Finder, Image, Refusal, Settings};
 
 fn refused(number: u32) -> Answer {
     Answer {
@@ -458,6 +458,17 @@ fn numbers_and_names() {
             refusal.to_string(),
             format!("refused {number}: {}", refusal.sentence())
         );
+    }
+    for (number, limit) in [
+        (2, limits::SIDE),
+        (4, limits::WORKING),
+        (5, limits::RAY as usize),
+        (6, limits::BLUR as usize),
+        (7, limits::SUPPRESSION as usize),
+    ] {
+        let sentence = Refusal::from_number(number).sentence().replace(',', "");
+        let said = sentence.split(' ').any(|word| word == limit.to_string());
+        assert!(said, "{sentence}");
     }
     assert_eq!(Refusal::from_number(99), Refusal::Unknown(99));
     assert_eq!(Refusal::Unknown(99).number(), 99);

@@ -11,7 +11,7 @@ use judge::{accepted, damaged, made, Detector, Kind, Room, Sizes, KINDS};
 const HELP: &str = "\
 frames --seed S --count N [--first I] [--max-side M] [--damaged] (OUTDIR | --archive FILE | --tell)
 Writes the frame files of seed S, index I (0 if not given) to I+N-1; the same bytes for the same words.
-  --max-side M  sides up to M; without it sizes are for the program: 2,304 working pixels
+  --max-side M  sides up to M; without it sizes are for the program's room
   --damaged     damaged files instead; not for an archive, which their lengths would not cut
   --archive     one file, frame files end to end, each stating its own length
   --tell        writes nothing; counts what the original finds by kind, and the program's answers

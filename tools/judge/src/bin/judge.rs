@@ -12,7 +12,7 @@ Reads frame files, or one from standard input, and prints what the published Rus
   --print    the list as document 01 prints it (the default), without the program's
              limits of room: answers 1, 9 and 10 are not given
   --all      W, H, working image, four tables, response, scratch and list
-  --program  with the program's limits: 2,324 bytes, 2,304 working pixels, 256 corners
+  --program  with the program's limits of bytes, working pixels and corners
   --archive  each file holds frame files end to end
 ";
 

@@ -1,0 +1,92 @@
+/* steyrbunk_easy.h: the finder of steyrbunk.h with one workspace in place of seven buffers, settings as a
+ * struct, and words for the answers. Everything here is inline C over steyrbunk_find; link libsteyrbunk_c.a.
+ *
+ *     steyrbunk_settings settings = steyrbunk_defaults();
+ *     size_t bytes = steyrbunk_workspace(width, height, &settings);
+ *     void *workspace = malloc(bytes);
+ *     float list[3 * 1024];
+ *     size_t count;
+ *     uint32_t answer = steyrbunk_find_in(image, image_len, width, height, &settings,
+ *                                         workspace, bytes, list, 3 * 1024, &count);
+ *     if (answer > 1) fprintf(stderr, "refused %u: %s\n", answer, steyrbunk_words(answer));
+ */
+#ifndef STEYRBUNK_EASY_H
+#define STEYRBUNK_EASY_H
+
+#include "steyrbunk.h"
+
+/* The settings of a call; steyrbunk.h says what each means. */
+typedef struct {
+    uint32_t ray_radius;
+    uint32_t image_upsample;
+    uint32_t response_blur_radius;
+    uint32_t peak_fit;
+    float threshold_rel;
+    uint32_t nms_radius;
+    uint32_t min_cluster_size;
+} steyrbunk_settings;
+
+static inline steyrbunk_settings steyrbunk_defaults(void) {
+    steyrbunk_settings settings = {
+        STEYRBUNK_RAY_RADIUS, STEYRBUNK_IMAGE_UPSAMPLE, STEYRBUNK_RESPONSE_BLUR_RADIUS, STEYRBUNK_PEAK_FIT,
+        STEYRBUNK_THRESHOLD_REL, STEYRBUNK_NMS_RADIUS, STEYRBUNK_MIN_CLUSTER_SIZE,
+    };
+    return settings;
+}
+
+/* Working pixels of an image, or 0 where the sizes are refused. */
+static inline size_t steyrbunk_working_pixels(size_t width, size_t height, const steyrbunk_settings *settings) {
+    size_t factor = settings->image_upsample < 2 ? 1 : 2;
+    if (width > STEYRBUNK_GREATEST_SIDE || height > STEYRBUNK_GREATEST_SIDE) return 0;
+    size_t pixels = factor * width * factor * height;
+    return pixels > STEYRBUNK_GREATEST_WORKING ? 0 : pixels;
+}
+
+/* Bytes that a workspace needs for an image of these sides: 25 a working pixel, the working image's rounded
+ * up to whole words; 0 where there is no pixel or the sizes are refused. */
+static inline size_t steyrbunk_workspace(size_t width, size_t height, const steyrbunk_settings *settings) {
+    size_t pixels = steyrbunk_working_pixels(width, height, settings);
+    return 24 * pixels + (pixels + 3) / 4 * 4;
+}
+
+/* Map and list of an image. The arguments are those of steyrbunk_find, but for the workspace, which must be
+ * aligned as malloc aligns, or at least to four bytes. What it held before changes nothing; with an answer
+ * above 1 it is as it was. A workspace that is too short: 9, by the same order as the other answers.
+ * list_len counts floats, three a corner. */
+static inline uint32_t steyrbunk_find_in(
+    const uint8_t *image, size_t image_len, size_t width, size_t height, const steyrbunk_settings *settings,
+    void *workspace, size_t workspace_len, float *list, size_t list_len, size_t *count) {
+    size_t pixels = steyrbunk_working_pixels(width, height, settings);
+    /* Where it is too short no buffer is lent, and the answer is the library's. */
+    size_t entries = workspace_len < steyrbunk_workspace(width, height, settings) ? 0 : pixels;
+    uint32_t *words = (uint32_t *)workspace;
+    uint32_t *row = words, *col = row + entries, *falling = col + entries, *rising = falling + entries;
+    float *response = (float *)(rising + entries), *scratch = response + entries;
+    uint8_t *working = (uint8_t *)(scratch + entries);
+    size_t w, h;
+    return steyrbunk_find(
+        image, image_len, width, height, settings->ray_radius, settings->image_upsample,
+        settings->response_blur_radius, settings->peak_fit, settings->threshold_rel, settings->nms_radius,
+        settings->min_cluster_size, working, entries, row, entries, col, entries, falling, entries, rising, entries,
+        response, entries, scratch, entries, list, list_len, count, &w, &h);
+}
+
+/* What an answer means. */
+static inline const char *steyrbunk_words(uint32_t answer) {
+    switch (answer) {
+    case 0: return "accepted, all corners are in the list";
+    case 1: return "accepted, more corners than the list has room for";
+    case 2: return "width or height is over 4,096 pixels";
+    case 3: return "the number of pixels is not width times height";
+    case 4: return "there are over 8,388,608 working pixels";
+    case 5: return "the ray radius is over 7";
+    case 6: return "the blur radius is over 3";
+    case 7: return "the suppression radius is over 32";
+    case 8: return "the threshold is not a number from 0 to 1";
+    case 9: return "a lent buffer is too short";
+    case 14: return "the mode is neither 0 (parabolic) nor 1 (Gaussian)";
+    default: return "an answer that this header does not know";
+    }
+}
+
+#endif

@@ -1,0 +1,17 @@
+//! The root and the logarithm that the finder takes, by themselves. NaN stands for "outside".
+
+use crate::raw;
+
+/// The nearest f32 to the root of a finite number from +0 up.
+#[inline]
+pub fn sqrt(x: f32) -> f32 {
+    // SAFETY: a number in, a number out.
+    unsafe { raw::steyrbunk_sqrt(x) }
+}
+
+/// Document 01's logarithm of a number from 2^-6 to 2^24.
+#[inline]
+pub fn ln(x: f32) -> f32 {
+    // SAFETY: as above.
+    unsafe { raw::steyrbunk_ln(x) }
+}
