@@ -74,6 +74,12 @@ pub enum Difference {
         theirs: bool,
         corner: [u32; 3],
     },
+    /// The first line that the program `corners` prints otherwise than the Rust's list would be, counted from 1; empty where there is none.
+    Printed {
+        line: usize,
+        theirs: String,
+        ours: String,
+    },
     /// The first corner that differs.
     Corner {
         index: usize,
@@ -125,6 +131,12 @@ impl fmt::Display for Difference {
             }
             Difference::Count { theirs, ours } => {
                 write!(out, "count: the Rust {theirs}, ours {ours}")
+            }
+            Difference::Printed { line, theirs, ours } => {
+                write!(
+                    out,
+                    "line {line}: the Rust's would be '{theirs}', the program prints '{ours}'"
+                )
             }
             Difference::Alone {
                 index,

@@ -3,11 +3,13 @@
 mod difference;
 mod gaussian;
 mod pair;
+mod program;
 mod source;
 mod summary;
 
 pub use difference::{Difference, What};
 pub use gaussian::{Class, Distances, BOUND, CURVATURES};
 pub use pair::{Held, Pair};
+pub use program::Program;
 pub use source::{Job, Source};
 pub use summary::Summary;

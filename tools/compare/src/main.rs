@@ -6,14 +6,15 @@ use std::process::ExitCode;
 use std::sync::{mpsc, Mutex};
 use std::thread;
 
-use compare::{Held, Job, Pair, Source, Summary, BOUND};
+use compare::{Held, Job, Pair, Program, Source, Summary, BOUND};
 use console::{say, Progress, Usage, Word, Words};
+use frames::{settings_help, Named};
 use judge::Sizes;
 
 const HELP: &str = "\
 compare runs the published Rust and the proved finder over the same frames.
 
-  compare [OPTIONS] PATH...                          frame files, and folders of *.frame files
+  compare [OPTIONS] [SETTINGS] PATH...               PGM pictures, frame files, folders of both
   compare [OPTIONS] --archive FILE...                frame files end to end in each file
   compare [OPTIONS] --seed S --count N [--first I]   frames made from a seed, index I to I+N-1
 
@@ -21,6 +22,10 @@ Answers, working image, tables, map, scratch and list must be equal to the bit. 
 Gaussian corners may differ: by the bound divided by the peak's curvature (the second difference of
 three logarithms) in working pixels, at most by one pixel, and by one step of an f32.
 
+  --program PATH   runs the proved program `corners` too, which `rt check corners` leaves in
+                   target/bin/corners: what it prints must be the Rust's list as document 01 has it
+                   printed, refusals 9 and 10 of its own room among them
+  --damaged        every second made file is damaged
   --max-side M     made frames with sides up to M; without it they have the program's size
   --bound B        the bound for Gaussian places (default 5e-6)
   --lists          prints both lists of each frame
@@ -29,7 +34,10 @@ three logarithms) in working pixels, at most by one pixel, and by one step of an
   --threads N      default 2
 
 The status is 0 if nothing differs that may not, 1 if something does, a file could not be read or
-there was nothing to compare, 2 if the words of the call are wrong.
+there was nothing to compare, 2 if the words of the call are wrong. A file that is neither a picture
+that is taken nor a frame file is not a frame, and could not be read.
+
+SETTINGS
 ";
 
 struct Options {
@@ -37,7 +45,10 @@ struct Options {
     lists: bool,
     each: bool,
     keep: Option<PathBuf>,
+    program: Option<Program>,
     threads: usize,
+    /// What could not be looked into.
+    problems: Vec<String>,
 }
 
 fn options(mut words: Words) -> Result<(Options, Source), Usage> {
@@ -46,10 +57,13 @@ fn options(mut words: Words) -> Result<(Options, Source), Usage> {
         lists: false,
         each: false,
         keep: None,
+        program: None,
         threads: 2,
+        problems: Vec::new(),
     };
     let (mut seed, mut count, mut first, mut sizes) = (None, None, 0, Sizes::PROGRAM);
-    let (mut archive, mut paths) = (false, Vec::new());
+    let (mut archive, mut damaged, mut paths) = (false, false, Vec::new());
+    let mut named = Named::default();
     while let Some(word) = words.word()? {
         let flag = match word {
             Word::Path(path) => {
@@ -69,15 +83,25 @@ fn options(mut words: Words) -> Result<(Options, Source), Usage> {
             "--keep" => options.keep = Some(words.path(&flag, "a folder")?),
             "--threads" => options.threads = words.value(&flag, "a number")?,
             "--archive" => archive = true,
+            "--damaged" => damaged = true,
+            "--program" => {
+                let path = words.path(&flag, "the program `corners`")?;
+                options.program = Some(Program { path });
+            }
+            _ if named.flag(&flag, &mut words)? => {}
             _ => return Usage::wrong(format!("{flag} is not known")),
         }
     }
     let source = match (seed, count, paths.is_empty()) {
-        (Some(seed), Some(count), true) if !archive => Source::made(seed, first, count, sizes),
+        (Some(seed), Some(count), true) if !archive => {
+            Source::made(seed, first, count, sizes, damaged)
+        }
         (None, None, false) if archive => Source::archives(&paths),
         (None, None, false) => {
             options.each = true;
-            Source::files(&paths).or_else(|error| Usage::wrong(error.to_string()))?
+            let (source, problems) = Source::files(&paths, named);
+            options.problems = problems;
+            source
         }
         _ => return Usage::wrong("either paths, or --seed and --count"),
     };
@@ -120,6 +144,7 @@ fn run(options: &Options, source: Source) -> Summary {
             let (sender, source) = (sender.clone(), &source);
             scope.spawn(move || {
                 let mut pair = Pair::new(options.bound);
+                pair.program = options.program.clone();
                 loop {
                     let (number, jobs) = {
                         let mut source = source.lock().expect("no worker panics with it");
@@ -171,7 +196,7 @@ fn tell(options: &Options, line: &Line, summary: &mut Summary, progress: &mut Pr
         Err(error) => {
             summary.unread += 1;
             progress.clear();
-            say(&format!("{name}: NOT READ: {error}\n"));
+            say(&format!("{name}: NOT COMPARED: {error}\n"));
         }
         Ok(held) => {
             summary.add(held);
@@ -190,13 +215,18 @@ fn tell(options: &Options, line: &Line, summary: &mut Summary, progress: &mut Pr
 }
 
 fn main() -> ExitCode {
-    console::run("compare", HELP, |words| {
+    let help = HELP.replace("SETTINGS\n", &settings_help());
+    console::run("compare", &help, |words| {
         let (options, source) = options(words)?;
         if let Some(folder) = &options.keep {
             fs::create_dir_all(folder)
                 .or_else(|error| Usage::wrong(format!("{}: {error}", folder.display())))?;
         }
-        let summary = run(&options, source);
+        let mut summary = run(&options, source);
+        for problem in &options.problems {
+            summary.unread += 1;
+            say(&format!("{problem}\n"));
+        }
         say(&summary.to_string());
         Ok(ExitCode::from(u8::from(!summary.agreed())))
     })

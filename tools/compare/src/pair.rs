@@ -8,6 +8,7 @@ use steyrbunk::{printed, Corner, Finder, Found, Map, PeakFit, Refusal};
 
 use crate::difference::{Difference, What};
 use crate::gaussian::{Distances, Places};
+use crate::program::Program;
 
 /// The two programs, each with the buffers that it keeps from frame to frame.
 pub struct Pair {
@@ -15,6 +16,8 @@ pub struct Pair {
     ours: Finder,
     /// How far Gaussian places may lie apart: in working pixels, times the peak's curvature.
     pub bound: f64,
+    /// The proved program, if it is held to the Rust as well.
+    pub program: Option<Program>,
 }
 
 /// Both outcomes, how they differ beyond what is allowed, and how far Gaussian places lie apart.
@@ -68,6 +71,7 @@ impl Pair {
             theirs: Detector::new(),
             ours: Finder::new(),
             bound,
+            program: None,
         }
     }
 
@@ -100,6 +104,16 @@ impl Pair {
                     differences.push(Difference::Answer { theirs, ours });
                 }
             }
+        }
+        if let Some(program) = &self.program {
+            let places = frame.ok().map(|frame| Places {
+                map: self.ours.map(),
+                factor: frame.settings.factor(),
+                bound: self.bound,
+            });
+            let gaussian = frame.is_ok_and(|frame| frame.settings.peak_fit == PeakFit::Gaussian);
+            let theirs = judge::printed_by(&mut self.theirs, file, Room::PROGRAM);
+            differences.extend(program.hold(file, &theirs, places.filter(|_| gaussian)));
         }
         Held {
             theirs,

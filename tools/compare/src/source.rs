@@ -5,9 +5,10 @@ use std::fs::{self, File};
 use std::io::{self, BufReader, Read};
 use std::path::{Path, PathBuf};
 
-use console::LONGEST;
-use judge::{made, Sizes};
-use steyrbunk::frame::{stated_length, LEAD};
+use console::{shown, LONGEST};
+use frames::{Kind, Named, Problem};
+use judge::{damaged, made, Sizes};
+use steyrbunk::frame::{bytes, stated_length, LEAD};
 
 /// A frame that is still to be opened, so that this can be done beside other work.
 pub enum Job {
@@ -16,7 +17,13 @@ pub enum Job {
         index: u64,
         sizes: Sizes,
     },
-    File(PathBuf),
+    /// A made frame file with some of its bytes changed, cut or added to.
+    Damaged {
+        seed: u64,
+        index: u64,
+    },
+    /// A frame file, or a picture with the settings of the call.
+    File(PathBuf, Named),
     /// A frame of an archive, or why there is none.
     Entry {
         archive: PathBuf,
@@ -29,7 +36,8 @@ impl Job {
     pub fn name(&self) -> String {
         match self {
             Job::Made { seed, index, .. } => format!("seed {seed}, index {index}"),
-            Job::File(path) => path.display().to_string(),
+            Job::Damaged { seed, index } => format!("seed {seed}, index {index}, damaged"),
+            Job::File(path, _) => shown(path),
             Job::Entry {
                 archive, number, ..
             } => format!("{}, frame {number}", archive.display()),
@@ -45,8 +53,10 @@ impl Job {
                 .into_owned()
         };
         match self {
-            Job::Made { seed, index, .. } => format!("{seed}-{index:07}.frame").into(),
-            Job::File(path) => format!("{}.frame", stem(path)).into(),
+            Job::Made { seed, index, .. } | Job::Damaged { seed, index } => {
+                format!("{seed}-{index:07}.frame").into()
+            }
+            Job::File(path, _) => format!("{}.frame", stem(path)).into(),
             Job::Entry {
                 archive, number, ..
             } => format!("{}-{number:07}.frame", stem(archive)).into(),
@@ -56,8 +66,9 @@ impl Job {
     pub fn open(&mut self) -> Result<Vec<u8>, String> {
         match self {
             Job::Made { seed, index, sizes } => Ok(made(*seed, *index, *sizes).frame.bytes()),
-            Job::File(path) => match console::read(path) {
-                Ok(Some(file)) => Ok(file),
+            Job::Damaged { seed, index } => Ok(damaged(*seed, *index)),
+            Job::File(path, named) => match console::read(path) {
+                Ok(Some(file)) => framed(path, file, named),
                 Ok(None) => Err(format!("over {LONGEST} bytes, longer than any frame")),
                 Err(error) => Err(error.to_string()),
             },
@@ -79,38 +90,57 @@ struct Making {
     next: u64,
     end: u64,
     sizes: Sizes,
+    /// Whether every second file is damaged.
+    damaged: bool,
+}
+
+/// Both programs read frame files: a picture becomes one, with the settings of the call. What is neither is no frame.
+fn framed(path: &Path, file: Vec<u8>, named: &Named) -> Result<Vec<u8>, String> {
+    let is_named_frame = path
+        .extension()
+        .is_some_and(|ending| ending.eq_ignore_ascii_case("frame"));
+    match frames::kind(&file) {
+        Kind::Frame => Ok(file),
+        _ if is_named_frame => Ok(file),
+        _ => {
+            let frame = frames::open(path, &file, named, false);
+            let frame = frame.map_err(|problem: Problem| format!("not a frame: {problem}"))?;
+            let text = "not a frame: a frame file has no room for such sizes or settings";
+            bytes(&frame).ok_or_else(|| text.to_string())
+        }
+    }
 }
 
 /// Frames given out at once.
 const SHARE: usize = 64;
 
 impl Source {
-    pub fn made(seed: u64, first: u64, count: u64, sizes: Sizes) -> Source {
+    pub fn made(seed: u64, first: u64, count: u64, sizes: Sizes, damaged: bool) -> Source {
         let end = first.saturating_add(count);
         let made = Making {
             seed,
             next: first,
             end,
             sizes,
+            damaged,
         };
         Source::of(Vec::new(), Some(made), Vec::new())
     }
 
-    /// Files, and folders of files that end in `.frame`.
-    pub fn files(paths: &[PathBuf]) -> io::Result<Source> {
-        let mut jobs = Vec::new();
+    /// Files, and folders of pictures and frame files; what cannot be looked into is told.
+    pub fn files(paths: &[PathBuf], named: Named) -> (Source, Vec<String>) {
+        let (mut jobs, mut problems) = (Vec::new(), Vec::new());
         for path in paths {
             if fs::metadata(path).is_ok_and(|data| data.is_dir()) {
-                jobs.extend(
-                    console::inside(path, &["frame"])?
-                        .into_iter()
-                        .map(Job::File),
-                );
+                let inside = console::inside(path, &["frame", "pgm"]);
+                jobs.extend(inside.files.into_iter().map(|file| Job::File(file, named)));
+                let unread = inside.unread.iter();
+                problems.extend(unread.map(|(path, error)| format!("{}: {error}", shown(path))));
             } else {
-                jobs.push(Job::File(path.clone()));
+                jobs.push(Job::File(path.clone(), named));
             }
         }
-        Ok(Source::of(jobs, None, Vec::new()))
+        (Source::of(jobs, None, Vec::new()), problems)
     }
 
     /// Files that hold frame files end to end.
@@ -152,8 +182,16 @@ impl Source {
         if let Some(making) = self.made.as_mut().filter(|making| making.next < making.end) {
             let index = making.next;
             making.next += 1;
-            let Making { seed, sizes, .. } = *making;
-            return Some(Job::Made { seed, index, sizes });
+            let Making {
+                seed,
+                sizes,
+                damaged,
+                ..
+            } = *making;
+            return Some(match damaged && index % 2 == 1 {
+                true => Job::Damaged { seed, index },
+                false => Job::Made { seed, index, sizes },
+            });
         }
         self.queue.pop_front().or_else(|| self.entry())
     }

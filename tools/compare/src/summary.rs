@@ -48,6 +48,12 @@ impl Summary {
         if all.coordinates == 0 {
             return Ok(());
         }
+        writeln!(
+            out,
+            "A corner's peak that is flat along an axis (small curvature) has no sharp place there: the two programs'
+logarithms differ in their last bits, and a flat peak magnifies that. A step is the smallest change
+of a printed number; a distance below 0.001 pixels moves nothing that a panel's fit can feel."
+        )?;
         writeln!(out, "  curvature     coordinates  greatest distance")?;
         for (at, class) in classes
             .iter()

@@ -420,7 +420,12 @@ fn rights() {
     let files: Vec<String> = all(&lists).into_keys().collect();
     assert_eq!(
         files,
-        ["a.pgm.corners.part", "b.pgm.corners.part", "open/b.pgm.corners", "run.plan"]
+        [
+            "a.pgm.corners.part",
+            "b.pgm.corners.part",
+            "open/b.pgm.corners",
+            "run.plan"
+        ]
     );
     give(&lists.join("open"), 0o755);
     let output = nobody(&["--out", "lists", "frames"]);

@@ -115,23 +115,51 @@ fn the_example() {
     assert_eq!(run(&program, b"P5 0 0 255\n").stdout, b"0 corners\n");
     let commented = pgm(&board);
     let commented = [b"P5 # grey\n# by a camera", &commented[2..]].concat();
-    assert_eq!(run(&program, &commented).stdout, run(&program, &pgm(&board)).stdout);
+    assert_eq!(
+        run(&program, &commented).stdout,
+        run(&program, &pgm(&board)).stdout
+    );
     let output = run(&program, b"P5 4097 1 255\n");
     assert!(output.stderr.starts_with(b"refused 2: ") && output.status.code() == Some(1));
-    for damaged in [&b""[..], b"P6 1 1 255\n123", b"P5", b"P5 7 x", b"P5 1 1 256\n12", b"P5 1 1 255"] {
+    for damaged in [
+        &b""[..],
+        b"P6 1 1 255\n123",
+        b"P5",
+        b"P5 7 x",
+        b"P5 1 1 256\n12",
+        b"P5 1 1 255",
+    ] {
         let output = run(&program, damaged);
-        assert_eq!((output.status.code(), output.stdout.len()), (Some(2), 0), "{damaged:?}");
+        assert_eq!(
+            (output.status.code(), output.stdout.len()),
+            (Some(2), 0),
+            "{damaged:?}"
+        );
     }
     // More corners than the example has room for: it says that its list is cut.
     let (width, height) = (1024, 1024);
-    let shade = |at: usize| if (at % width / 5 + at / width / 5) % 2 == 0 { 40 } else { 190 };
+    let shade = |at: usize| {
+        if (at % width / 5 + at / width / 5) % 2 == 0 {
+            40
+        } else {
+            190
+        }
+    };
     let mut many = format!("P5 {width} {height} 255\n").into_bytes();
     many.extend((0..width * height).map(shade));
     let output = run(&program, &many);
     let text = String::from_utf8(output.stdout).expect("text");
-    let first: usize = text.split(' ').next().expect("a count").parse().expect("a number");
+    let first: usize = text
+        .split(' ')
+        .next()
+        .expect("a count")
+        .parse()
+        .expect("a number");
     assert!(first > 4096 && text.lines().count() == 1 + 4096, "{first}");
-    assert_eq!(output.stderr, b"the list is cut: there is room for 4096 corners\n");
+    assert_eq!(
+        output.stderr,
+        b"the list is cut: there is room for 4096 corners\n"
+    );
 }
 
 /// Every answer through the header's easy calls, over workspaces of every length about the right one.
@@ -143,14 +171,32 @@ fn the_easy_calls() {
     };
     let output = run(&program, b"");
     let text = String::from_utf8_lossy(&output.stdout).into_owned();
-    assert!(output.status.success(), "{text}{}", String::from_utf8_lossy(&output.stderr));
+    assert!(
+        output.status.success(),
+        "{text}{}",
+        String::from_utf8_lossy(&output.stderr)
+    );
     assert_eq!(text, "all answers as they should be\n");
     let (header, table) = (read("include/steyrbunk_easy.h"), read("src/refusal.rs"));
-    for line in table.lines().filter(|line| line.trim_start().starts_with('(')) {
-        let Some((_, words)) = line.split_once('"') else { continue };
-        let number: u32 = line.trim_start_matches([' ', '(']).split(',').next().expect("a number").parse().expect("digits");
+    for line in table
+        .lines()
+        .filter(|line| line.trim_start().starts_with('('))
+    {
+        let Some((_, words)) = line.split_once('"') else {
+            continue;
+        };
+        let number: u32 = line
+            .trim_start_matches([' ', '('])
+            .split(',')
+            .next()
+            .expect("a number")
+            .parse()
+            .expect("digits");
         if !(10..=13).contains(&number) {
-            assert!(header.contains(words.split('"').next().expect("closed")), "{number}");
+            assert!(
+                header.contains(words.split('"').next().expect("closed")),
+                "{number}"
+            );
         }
     }
 }
@@ -158,17 +204,31 @@ fn the_easy_calls() {
 /// Python over a shared library that the documented line builds.
 #[test]
 fn python() {
-    let (package, folder) = (Path::new(env!("CARGO_MANIFEST_DIR")), Path::new(env!("CARGO_TARGET_TMPDIR")));
+    let (package, folder) = (
+        Path::new(env!("CARGO_MANIFEST_DIR")),
+        Path::new(env!("CARGO_TARGET_TMPDIR")),
+    );
     let library = folder.join("libsteyrbunk.so");
     let command = package.join("../target/release/steyrbunk");
     let linked = Command::new("cc")
         .args(["-shared", "-o"])
         .arg(&library)
-        .args(["-Wl,--whole-archive", env!("STEYRBUNK_ARCHIVE"), "-Wl,--no-whole-archive"])
+        .args([
+            "-Wl,--whole-archive",
+            env!("STEYRBUNK_ARCHIVE"),
+            "-Wl,--no-whole-archive",
+        ])
         .output();
     let linked = linked.expect("a C compiler");
-    assert!(linked.status.success(), "{}", String::from_utf8_lossy(&linked.stderr));
-    assert!(command.exists(), "build the command first: cargo build --offline --release -p fitters");
+    assert!(
+        linked.status.success(),
+        "{}",
+        String::from_utf8_lossy(&linked.stderr)
+    );
+    assert!(
+        command.exists(),
+        "build the command first: cargo build --offline --release -p fitters"
+    );
     let output = Command::new("python3")
         .arg(package.join("../../python/test_steyrbunk.py"))
         .arg(&command)
@@ -176,8 +236,14 @@ fn python() {
         .env("STEYRBUNK_SO", &library)
         .output();
     let output = output.expect("python3");
-    let (text, error) = (String::from_utf8_lossy(&output.stdout), String::from_utf8_lossy(&output.stderr));
-    assert!(output.status.success() && text.ends_with("checks pass\n"), "{text}{error}");
+    let (text, error) = (
+        String::from_utf8_lossy(&output.stdout),
+        String::from_utf8_lossy(&output.stderr),
+    );
+    assert!(
+        output.status.success() && text.ends_with("checks pass\n"),
+        "{text}{error}"
+    );
 }
 
 fn read(name: &str) -> String {
