@@ -1,5 +1,5 @@
 -- `upsample::image_fits` meets its contract: the sides are judged first, so that their product does not wrap. Assumes nothing.
-use Prim.Native.Nat.{_-_, _≤_}
+use Prim.Native.Nat.{_≤_}
 use native.Mathlib.Omega.{arith}
 use borrow.Author.Needs.{needs}
 use native.Mathlib.Nat.{mul-le-mul}

@@ -1,6 +1,5 @@
 -- `upsample::upsample` meets its contract: all rows where they fit, and nothing where they do not. Assumes nothing.
 use mathlib.Core.Path.{sym, _∙_}
-use Prim.Native.Nat.{_-_}
 use borrow.Author.Needs.{needs}
 use Rattle.upsample.proofs.Fits.{all-fitting}
 use Rattle.upsample.proofs.upsample.Statement.{statement}

@@ -1,6 +1,5 @@
 -- `upsample::upsample_row` meets its contract: the row where it fits, and nothing where it does not. Assumes nothing.
 use mathlib.Core.Path.{sym, _∙_}
-use Prim.Native.Nat.{_-_}
 use borrow.Author.Needs.{needs}
 use Rattle.upsample.proofs.Fits.{row-fitting}
 use Rattle.upsample.proofs.upsample_row.Statement.{statement}
