@@ -1,5 +1,4 @@
 -- `blur::blur_both` meets its contract: nothing for radius 0, and otherwise the second pass over what the first one wrote. Assumes nothing.
-use Prim.Native.Nat.{_-_}
 use borrow.Author.Needs.{needs}
 use Rattle.blur.specs.Blur.{valueAt}
 use Rattle.blur.proofs.BlurLaws.{blur-none, scratch-none, blur-some, scratch-some}

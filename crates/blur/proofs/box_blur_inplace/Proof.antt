@@ -1,6 +1,5 @@
 -- `blur::box_blur_inplace` meets its contract: the map blurred where it fits, and nothing where it does not. Assumes nothing.
 use mathlib.Core.Path.{_≡_, sym, ap, _∙_}
-use Prim.Native.Nat.{_-_}
 use lib.ListN.{length}
 use borrow.Author.Needs.{needs}
 use mathlib.Core.Bool.{true}

@@ -1,6 +1,5 @@
 -- `blur::divide_row` meets its contract: three parts, one after the other, divide by the same map of counts. Assumes nothing.
 use mathlib.Core.Path.{refl}
-use Prim.Native.Nat.{_-_}
 use borrow.Author.Needs.{needs}
 use Rattle.blur.proofs.Steps.{divided}
 use Rattle.blur.proofs.divide_row.Statement.{statement}

@@ -1,5 +1,5 @@
 -- `blur::mean_column` meets its contract: the sums of the window's rows, times the count's reciprocal, are the means. Assumes nothing.
-use Prim.Native.Nat.{_-_, _≤_}
+use Prim.Native.Nat.{_≤_}
 use native.Mathlib.Omega.{arith}
 use borrow.Author.Needs.{needs}
 use native.Mathlib.Nat.{mul-le-mul-left}

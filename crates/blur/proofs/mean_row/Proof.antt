@@ -1,5 +1,4 @@
 -- `blur::mean_row` meets its contract: a row's sums, each divided by its count, are its means. Assumes nothing.
-use Prim.Native.Nat.{_-_}
 use borrow.Author.Needs.{needs}
 use Rattle.blur.proofs.Steps.{row-means}
 use Rattle.blur.proofs.mean_row.Statement.{statement}

@@ -1,6 +1,5 @@
 -- `upsample::row_fits` meets its contract: an image that fits has no working side that is too long to count. Assumes nothing.
 use mathlib.Core.Path.{sym, _∙_}
-use Prim.Native.Nat.{_-_}
 use native.Mathlib.Omega.{arith}
 use borrow.Author.Needs.{needs}
 use borrow.Author.Tests.{lt-ltb, le-ltb}
