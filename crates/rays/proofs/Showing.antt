@@ -76,9 +76,9 @@ module _ {w h : ℕ} {row col falling rising : List ℕ} (t : Tables w h row col
       omega (arith, ray-ext d (shown row w) f w h r x y m (λ x y a b. omega (arith, t .most x y a b)), ray-most d f 4095 r x y (λ x y. omega arith))
 
   -- the rows that a table is read in, up to row k counted from 1
-  pub rows-room : {k : ℕ} → k ≤ h
+  pub rows-room : (k : ℕ) → k ≤ h
       → (w ≤ 8192) × (k ≤ 8192) × (w * k ≤ length row) × (w * k ≤ length col) × (w * k ≤ length falling) × (w * k ≤ length rising)
-  rows-room {k} l = omega (arith, t .wide, t .high, t .row-long, t .col-long, t .falling-long, t .rising-long, mul-le-mul-left w l)
+  rows-room k l = omega (arith, t .wide, t .high, t .row-long, t .col-long, t .falling-long, t .rising-long, mul-le-mul-left w l)
 
   -- where the rows y, y + r and y - r - 1 end
   pub deep-room : {r x y : ℕ} → Deep w h r x y → (y * w + w ≤ w * h) × ((y + r) * w + w ≤ w * h) × ((y - r - 1) * w + w ≤ w * h)

@@ -73,7 +73,7 @@ add-entry c = search needs
 
 entry-requires : tie.Need-entry-requires
 entry-requires c κs =
-    let q = rows-room (start c .pre .1 .tables) (omega arith) in
+    let q = rows-room (start c .pre .1 .tables) (start c .args .at .y + 1) (omega arith) in
     (q .0, q .1, q .2)
 
 add-entry-2 : tie.Need-add-entry-2
@@ -81,7 +81,7 @@ add-entry-2 c = search needs
 
 entry-requires-2 : tie.Need-entry-requires-2
 entry-requires-2 c κs =
-    let q = rows-room (start (c .before) .pre .1 .tables) (omega arith) in
+    let q = rows-room (start (c .before) .pre .1 .tables) (start (c .before) .args .at .y + 1) (omega arith) in
     (q .0, q .1, q .2)
 
 sub-s-h : tie.Need-sub-s-h
@@ -92,7 +92,7 @@ add-entry-3 c = search needs
 
 entry-requires-3 : tie.Need-entry-requires-3
 entry-requires-3 c κs =
-    let q = rows-room (start2 c .pre .1 .tables) (omega arith) in
+    let q = rows-room (start2 c .pre .1 .tables) (start2 c .args .at .y + start2 c .args .at .r + 1) (omega arith) in
     (q .0, q .1, q .3)
 
 add-entry-4 : tie.Need-add-entry-4
@@ -100,7 +100,7 @@ add-entry-4 c = search needs
 
 entry-requires-4 : tie.Need-entry-requires-4
 entry-requires-4 c κs =
-    let q = rows-room (start2 (c .before) .pre .1 .tables) (omega arith) in
+    let q = rows-room (start2 (c .before) .pre .1 .tables) (start2 (c .before) .args .at .y - start2 (c .before) .args .at .r) (omega arith) in
     (q .0, q .1, q .3)
 
 sub-s-v : tie.Need-sub-s-v
@@ -108,12 +108,12 @@ sub-s-v c = on-col c .0
 
 entry-requires-5 : tie.Need-entry-requires-5
 entry-requires-5 c κs =
-    let q = rows-room (start4 c .pre .1 .tables) (omega arith) in
+    let q = rows-room (start4 c .pre .1 .tables) (start4 c .args .at .y + start4 c .args .at .r + 1) (omega arith) in
     (q .0, q .1, q .4)
 
 entry-requires-6 : tie.Need-entry-requires-6
 entry-requires-6 c κs =
-    let q = rows-room (start4 (c .before) .pre .1 .tables) (omega arith) in
+    let q = rows-room (start4 (c .before) .pre .1 .tables) (start4 (c .before) .args .at .y - start4 (c .before) .args .at .r) (omega arith) in
     (q .0, q .1, q .4)
 
 sub-s-d1 : tie.Need-sub-s-d1
@@ -124,7 +124,7 @@ add-entry-5 c = omega arith
 
 entry-requires-7 : tie.Need-entry-requires-7
 entry-requires-7 c κs =
-    let q = rows-room (start6 c .pre .1 .tables) (omega arith) in
+    let q = rows-room (start6 c .pre .1 .tables) (start6 c .args .at .y + start6 c .args .at .r + 1) (omega arith) in
     (q .0, q .1, q .5)
 
 add-entry-6 : tie.Need-add-entry-6
@@ -132,7 +132,7 @@ add-entry-6 c = omega arith
 
 entry-requires-8 : tie.Need-entry-requires-8
 entry-requires-8 c κs =
-    let q = rows-room (start6 (c .before) .pre .1 .tables) (omega arith) in
+    let q = rows-room (start6 (c .before) .pre .1 .tables) (start6 (c .before) .args .at .y - start6 (c .before) .args .at .r) (omega arith) in
     (q .0, q .1, q .5)
 
 sub-s-d2 : tie.Need-sub-s-d2
