@@ -1,9 +1,9 @@
 -- `params::Answer::or_else` meets its contract: a chain of one stage. Assumes nothing.
 use mathlib.Core.Path.{refl}
 use borrow.Author.Needs.{needs}
-use Rattle.params.specs.Accepted.{stage-refuses, stage-passes}
-use Rattle.params.proofs.Answer.or_else.Statement.{statement}
-use Rattle.params.proofs.Answer.or_else.Tie as tie
+use Rattle.params.proofs.Accepted.{stage-refuses, stage-passes}
+use Rattle.params.proofs.answers.Answer.or_else.Statement.{statement}
+use Rattle.params.proofs.answers.Answer.or_else.Tie as tie
 
 number-requires : tie.Need-number-requires
 number-requires c κs = search needs

@@ -4,12 +4,12 @@ use Prim.Native.Nat.{ℕ}
 use lib.Ieee.{binary32, ofBits, mul}
 use borrow.Author.Needs.{needs}
 use borrow.Author.Tests.{eq-eqb, ne-eqb}
-use Rattle.params.specs.declared.Working.{Working}
-use Rattle.params.specs.declared.Input.{Input}
+use Rattle.params.specs.declared.coordinates.Working.{Working}
+use Rattle.params.specs.declared.coordinates.Input.{Input}
 use Rattle.params.specs.Settings.{factorOf}
 use Rattle.params.specs.Coordinates.{toInput}
-use Rattle.params.proofs.Working.to_input.Statement.{statement}
-use Rattle.params.proofs.Working.to_input.Tie as tie
+use Rattle.params.proofs.coordinates.Working.to_input.Statement.{statement}
+use Rattle.params.proofs.coordinates.Working.to_input.Tie as tie
 
 -- a coordinate times the number of these bits
 abbrev times : Working → ℕ → Input

@@ -1,8 +1,8 @@
--- `params::judge_room` meets its contract: every answer is walked to along the chain. Assumes nothing.
+-- `params::judges::judge_room` meets its contract: every answer is walked to along the chain. Assumes nothing.
 use Rattle.params.specs.Refusals.{roomRefusal}
 use Rattle.params.proofs.Chain.{chain}
-use Rattle.params.proofs.judge_room.Statement.{statement}
-use Rattle.params.proofs.judge_room.Tie as tie
+use Rattle.params.proofs.judges.judge_room.Statement.{statement}
+use Rattle.params.proofs.judges.judge_room.Tie as tie
 
 returns : tie.Need-returns
 unfolding roomRefusal

@@ -1,8 +1,8 @@
--- `params::judge_list` meets its contract: every answer is walked to along the chain. Assumes nothing.
+-- `params::judges::judge_list_settings` meets its contract: every answer is walked to along the chain. Assumes nothing.
 use Rattle.params.specs.Refusals.{listRefusal}
 use Rattle.params.proofs.Chain.{chain}
-use Rattle.params.proofs.judge_list.Statement.{statement}
-use Rattle.params.proofs.judge_list.Tie as tie
+use Rattle.params.proofs.judges.judge_list_settings.Statement.{statement}
+use Rattle.params.proofs.judges.judge_list_settings.Tie as tie
 
 returns : tie.Need-returns
 unfolding listRefusal
@@ -24,5 +24,5 @@ returns-5 : tie.Need-returns-5
 unfolding listRefusal
 returns-5 c = search chain depth 40
 
-pub judge-list-spec : {M : Type 1} → statement M
-judge-list-spec = tie.close (tie.spec returns returns-2 returns-3 returns-4 returns-5)
+pub judge-list-settings-spec : {M : Type 1} → statement M
+judge-list-settings-spec = tie.close (tie.spec returns returns-2 returns-3 returns-4 returns-5)
