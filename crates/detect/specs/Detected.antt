@@ -8,10 +8,10 @@ use lib.Ieee.{Float}
 use Rattle.grid.specs.Ways.{pixel}
 use Rattle.grid.specs.Rect.{Place}
 use Rattle.grid.specs.Over.{written}
-use Rattle.params.specs.declared.Answer.{Answer}
-use Rattle.params.specs.declared.Answer.the-variants.{Complete, ListFull, SideTooLong, TooManyPixels}
-use Rattle.params.specs.declared.Outcome.{Outcome}
-use Rattle.params.specs.declared.RadonDetectorParams.{RadonDetectorParams}
+use Rattle.params.specs.declared.answers.Answer.{Answer}
+use Rattle.params.specs.declared.answers.Answer.the-variants.{Complete, ListFull, SideTooLong, TooManyPixels}
+use Rattle.params.specs.declared.answers.Outcome.{Outcome}
+use Rattle.params.specs.declared.settings.RadonDetectorParams.{RadonDetectorParams}
 use Rattle.params.specs.Answers.{numberOf, refused}
 use Rattle.params.specs.Refusals.{pick, orElse, mapRefusal, listRefusal, roomRefusal}
 use Rattle.detect.specs.Window.{value}

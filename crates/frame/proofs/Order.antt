@@ -9,8 +9,8 @@ use native.Mathlib.Omega.{arith}
 use borrow.Author.Tests.{le-leb, lt-leb, lt-ltb, le-ltb}
 use lib.Dec.{leb, ltb}
 use lib.ListN.{length}
-use Rattle.params.specs.declared.Answer.{Answer}
-use Rattle.params.specs.declared.Answer.the-variants.{FileTooLong, FileTooShort}
+use Rattle.params.specs.declared.answers.Answer.{Answer}
+use Rattle.params.specs.declared.answers.Answer.the-variants.{FileTooLong, FileTooShort}
 use Rattle.frame.specs.declared.Reading.{Reading}
 use Rattle.frame.specs.declared.Reading.the-variants.{Refused}
 use Rattle.frame.specs.declared.fields.Field.{Field}

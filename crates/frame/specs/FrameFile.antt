@@ -7,9 +7,9 @@ use lib.Dec.{ltb, eqb}
 use lib.Ieee.{binary32, ofBits}
 use lib.ListN.{length, getD, drop}
 use denote.Ref.{RefT, now, ptr}
-use Rattle.params.specs.declared.Answer.the-variants.{FileTooLong, FileTooShort, Version, StatedLength, Mode}
-use Rattle.params.specs.declared.PeakFitMode.{PeakFitMode}
-use Rattle.params.specs.declared.PeakFitMode.the-variants.{Parabolic, Gaussian}
+use Rattle.params.specs.declared.answers.Answer.the-variants.{FileTooLong, FileTooShort, Version, StatedLength, Mode}
+use Rattle.params.specs.declared.settings.PeakFitMode.{PeakFitMode}
+use Rattle.params.specs.declared.settings.PeakFitMode.the-variants.{Parabolic, Gaussian}
 use Rattle.frame.specs.declared.Header.{Header}
 use Rattle.frame.specs.declared.Reading.{Reading}
 use Rattle.frame.specs.declared.Reading.the-variants.{Frame, Refused}

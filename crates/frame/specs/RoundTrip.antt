@@ -10,7 +10,7 @@ use lib.Dec.{eqb, lit<}
 use lib.Ieee.{binary32, ofBits}
 use lib.ListN.{length, drop, length-drop}
 use lib.Seq.{drop-cons}
-use Rattle.params.specs.declared.Answer.{Answer}
+use Rattle.params.specs.declared.answers.Answer.{Answer}
 use Rattle.frame.specs.declared.Header.{Header}
 use Rattle.frame.specs.declared.Reading.{Reading}
 use Rattle.frame.specs.declared.Reading.the-variants.{Frame, Refused}

@@ -3,7 +3,7 @@ use mathlib.Core.Path.{_≡_, refl}
 use mathlib.Core.List.{List, [], _∷_}
 use Prim.Native.Nat.{ℕ}
 use lib.Ieee.{Float, nan, binary32, ofBits, toBits, ofFields, odd, size}
-use Rattle.params.specs.declared.Answer.the-variants.{Complete, ListFull, StatedLength}
+use Rattle.params.specs.declared.answers.Answer.the-variants.{Complete, ListFull, StatedLength}
 use Rattle.params.specs.Answers.{refused}
 use Rattle.frame.specs.Printed.{digitsIn, digits, numeral, decimal, word, row, refusedLine, firstLine, cornerLine, cornerLines, fullLine, printed}
 

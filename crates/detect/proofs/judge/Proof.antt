@@ -2,7 +2,7 @@
 use Prim.Native.Nat.{_≤_}
 use native.Mathlib.Nat.{mul-le-mul}
 use mir.Facts.{fits-le, fits-lit}
-use Rattle.params.specs.Accepted.{stage-refuses, stage-passes, stages-joined, stage-zero}
+use Rattle.params.proofs.Accepted.{stage-refuses, stage-passes, stages-joined, stage-zero}
 use Rattle.detect.specs.Detected.{peaksRefusal}
 use Rattle.detect.proofs.Allowing.{working-passes}
 use borrow.Author.Needs.{needs}

@@ -1,7 +1,7 @@
 -- `frame::fields::mode` meets its contract. Assumes nothing.
 use borrow.Author.Needs.{needs}
 use borrow.Author.Tests.{le-leb, lt-leb}
-use Rattle.params.specs.declared.Answer.the-variants.{Mode}
+use Rattle.params.specs.declared.answers.Answer.the-variants.{Mode}
 use Rattle.frame.proofs.Order.{refuses, holds}
 use Rattle.frame.proofs.fields.mode.Statement.{statement}
 use Rattle.frame.proofs.fields.mode.Tie as tie

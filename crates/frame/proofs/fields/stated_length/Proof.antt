@@ -4,7 +4,7 @@ use borrow.Author.Needs.{needs}
 use borrow.Author.Tests.{eq-eqb, ne-eqb}
 use denote.Ref.{now}
 use lib.ListN.{length}
-use Rattle.params.specs.declared.Answer.the-variants.{StatedLength}
+use Rattle.params.specs.declared.answers.Answer.the-variants.{StatedLength}
 use Rattle.frame.proofs.Order.{refuses, holds}
 use Rattle.frame.proofs.fields.stated_length.Statement.{statement}
 use Rattle.frame.proofs.fields.stated_length.Tie as tie

@@ -1,7 +1,7 @@
 -- `frame::fields::version` meets its contract. Assumes nothing.
 use borrow.Author.Needs.{needs}
 use borrow.Author.Tests.{eq-eqb, ne-eqb}
-use Rattle.params.specs.declared.Answer.the-variants.{Version}
+use Rattle.params.specs.declared.answers.Answer.the-variants.{Version}
 use Rattle.frame.proofs.Order.{refuses, holds}
 use Rattle.frame.proofs.fields.version.Statement.{statement}
 use Rattle.frame.proofs.fields.version.Tie as tie
