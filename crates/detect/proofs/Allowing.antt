@@ -14,14 +14,14 @@ use Rattle.params.specs.declared.answers.Answer.the-variants.{Complete, ListFul
 use Rattle.params.specs.declared.answers.Outcome.{Outcome}
 use Rattle.params.specs.declared.settings.RadonDetectorParams.{RadonDetectorParams}
 use Rattle.params.specs.Answers.{numberOf, refused}
-use Rattle.params.specs.Refusals.{pick, orElse, mapRefusal, listRefusal, roomRefusal}
+use Rattle.params.specs.Refusals.{orElse, mapRefusal, listRefusal, roomRefusal}
 use Rattle.params.proofs.Accepted.{both-pass, map-passes, list-passes, room-passes}
 use Rattle.detect.specs.Window.{value}
 use Rattle.detect.specs.Corners.{numbers, stride}
 use Rattle.detect.specs.Detected.{workingRefusal, peaksRefusal, refusalFor, foundIn, fullOr, outcomeOf, listOf}
 use Rattle.detect.specs.Scan.{Asked}
 
-passed : (p q t : Bool) → numberOf (pick (p || q) SideTooLong (pick t TooManyPixels Complete)) ≡ 0 → (p ≡ false) × (q ≡ false)
+passed : (p q t : Bool) → numberOf (cond (p || q) SideTooLong (cond t TooManyPixels Complete)) ≡ 0 → (p ≡ false) × (q ≡ false)
 passed true q t e = absurd (omega arith)
 passed false true t e = absurd (omega arith)
 passed false false t e = (refl, refl)
