@@ -8,8 +8,7 @@ ghost use lib.Dec.{ltb, leb};
 ghost use lib.ListN.{length};
 ghost use lib.Ieee.{binary32, toBits};
 ghost use Rattle.frame.specs.Printed.{digitOf, numeral, refusedLine, firstLine, cornerLine, fullLine};
-ghost use Rattle.frame.specs.Lines.{Shows};
-ghost use Rattle.frame.specs.Appended.{blank, appended, Grown};
+ghost use Rattle.frame.specs.Lines.{Shows, blank, appended, Grown};
 
 // A line with nothing on it.
 pub fn empty() -> Line
@@ -22,7 +21,7 @@ pub fn empty() -> Line
 }
 
 // One byte more.
-pub fn push(line: Line, b: u8) -> Line
+fn push(line: Line, b: u8) -> Line
     requires { ⌜ line .len < 64 ⌝ }
     ensures { λ r. ⌜ r ≡ appended line (b ∷ []) ⌝ }
 {
@@ -57,7 +56,7 @@ fn single(base: usize, least: usize, n: usize) -> bool
 }
 
 // The numeral of n, with at least so many digits.
-pub fn number(line: Line, base: usize, least: usize, n: usize) -> Line
+fn number(line: Line, base: usize, least: usize, n: usize) -> Line
     requires { ⌜ (2 ≤ base) × (base ≤ 16) × (line .len + length (numeral base least n) ≤ 64) ⌝ }
     ensures { λ r. ⌜ r ≡ appended line (numeral base least n) ⌝ }
 {

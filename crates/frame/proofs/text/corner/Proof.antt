@@ -3,20 +3,31 @@ use native.Mathlib.Omega.{arith}
 use borrow.Author.Needs.{needs}
 use lib.Dec.{lit≤}
 use Rattle.frame.specs.Printed.{cornerLine}
-use Rattle.frame.specs.Appended.{empty-len, grown-len, three-shown}
+use Rattle.frame.proofs.Appended.{empty-len, grown-len, three-shown}
 use Rattle.frame.proofs.text.corner.Statement.{statement}
 use Rattle.frame.proofs.text.corner.Tie as tie
 
+empty-requires : tie.Need-empty-requires
+empty-requires c κs = search needs
+
+word-requires : tie.Need-word-requires
+word-requires c κs = omega (arith, empty-len (c .empty .ensures))
+
+word-requires-2 : tie.Need-word-requires-2
+word-requires-2 c κs = omega (arith, empty-len (c .before .empty .ensures), grown-len (c .word .ensures))
+
+word-requires-3 : tie.Need-word-requires-3
+word-requires-3 c κs =
+    let one = c .before in
+    omega (arith, empty-len (one .before .empty .ensures), grown-len (one .word .ensures), grown-len (c .word2 .ensures))
+
 returns : tie.Need-returns
 unfolding cornerLine
-returns c = three-shown _ _ _ (c .before .before .before .empty .ensures) (c .before .before .word .ensures) (c .before .word2 .ensures) (c .word3 .ensures) (lit≤ tt)
+returns c =
+    let two = c .before in
+    let one = two .before in
+    three-shown _ _ _ (one .before .empty .ensures) (one .word .ensures) (two .word2 .ensures) (c .word3 .ensures) (lit≤ tt)
 
 pub corner-spec : {M : Type 1} → statement M
 corner-spec =
-    tie.close
-    (tie.spec
-    (λ c κs. search needs)
-    (λ c κs. omega (arith, empty-len (c .empty .ensures)))
-    (λ c κs. omega (arith, empty-len (c .before .empty .ensures), grown-len (c .word .ensures)))
-    (λ c κs. omega (arith, empty-len (c .before .before .empty .ensures), grown-len (c .before .word .ensures), grown-len (c .word2 .ensures)))
-    returns)
+    tie.close (tie.spec empty-requires word-requires word-requires-2 word-requires-3 returns)

@@ -8,16 +8,8 @@ use native.Mathlib.Omega.{arith}
 use lib.ListN.{length, getD, take, replicate, drop, length-append, length-replicate}
 use lib.Seq.{sets, sets-eq, take-suc, take-all, length-take-le}
 use Rattle.frame.specs.declared.Line.{Line}
-use Rattle.frame.specs.Printed.{row}
-use Rattle.frame.specs.Lines.{lineOf, Shows}
-
-unfoldable pub appended : Line → List ℕ → Line
-appended l text = record { bytes = sets (l .bytes) (l .len) text; len = l .len + length text }
-
--- r is l with text behind it, and that is no more than k bytes
-pub record Grown (k : ℕ) (l : Line) (text : List ℕ) (r : Line) : Type 0 where
-  pub is : r ≡ appended l text
-  pub most : length text ≤ k
+use Rattle.frame.specs.Printed.{ascii, row}
+use Rattle.frame.specs.Lines.{lineOf, Shows, blank, appended, Grown}
 
 sets-more : (l : List ℕ) (i : ℕ) (a b : List ℕ) → sets (sets l i a) (i + length a) b ≡ sets l i (a ++ b)
 sets-more l i [] b = rw add-zero
@@ -38,16 +30,15 @@ grown-more {a = a} {b = b} g h = record {
   most = omega (arith, length-append a b);
 }
 
+pub grown : (k : ℕ) {l r : Line} {text : List ℕ} → r ≡ appended l text → length text ≤ k → Grown k l text r
+grown k e h = record { is = e; most = h }
+
 pub appended-len : (l : Line) (text : List ℕ) {r : Line} → r ≡ appended l text → r .len ≡ l .len + length text
 unfolding appended
 appended-len l text e = ap (λ (x : Line). x .len) e
 
 pub grown-len : {k : ℕ} {l r : Line} {text : List ℕ} → Grown k l text r → r .len ≤ l .len + k
 grown-len {l = l} {text = text} g = omega (arith, appended-len l text (g .is), g .most)
-
--- the line before anything is appended
-abbrev pub blank : Line
-blank = record { bytes = replicate 64 0; len = 0 }
 
 pub empty-len : {r : Line} → r ≡ blank → r .len ≡ 0
 empty-len e = ap (λ (x : Line). x .len) e
@@ -59,10 +50,15 @@ drop-zeros (suc k) (suc n) = rw suc-sub-suc (drop-zeros k n)
 
 shown-at : (text : List ℕ) → length text ≤ 64 → appended blank text ≡ lineOf text
 unfolding appended
-shown-at text h = λ j. record {
-  bytes = (sets-eq text (replicate 64 0) 0 (omega (arith, length-replicate {A = ℕ} 64 0)) ∙ ap (λ (r : List ℕ). text ++ r) (drop-zeros (0 + length text) 64 ∙ ap (λ (n : ℕ). replicate (64 - n) 0) (zero-add (length text)))) j;
-  len = zero-add (length text) j;
-}
+shown-at text h = λ j. record { bytes = bytes j; len = zero-add (length text) j }
+  where
+    zeros : drop {A = ℕ} (0 + length text) (replicate 64 0) ≡ replicate (64 - length text) 0
+    zeros = drop-zeros (0 + length text) 64 ∙ ap (λ (n : ℕ). replicate (64 - n) 0) (zero-add (length text))
+
+    bytes : sets (replicate 64 0) 0 text ≡ text ++ replicate (64 - length text) 0
+    bytes =
+        sets-eq text (replicate 64 0) 0 (omega (arith, length-replicate {A = ℕ} 64 0))
+        ∙ ap (λ (r : List ℕ). text ++ r) zeros
 
 -- a line that is known lies within its array
 pub shows : (text : List ℕ) {r : Line} → r ≡ lineOf text → Shows text r
@@ -72,7 +68,8 @@ pub shown : {k : ℕ} {text : List ℕ} {l r : Line} → l ≡ blank → Grown k
 shown {text = text} e g h = shows text (g .is ∙ ap (λ (l : Line). appended l text) e ∙ shown-at text (omega (arith, g .most)))
 
 -- three fields make a line
-pub three-shown : {i j k : ℕ} {l m n r : Line} (a b c : List ℕ) → l ≡ blank → Grown i l (a ++ (32 ∷ [])) m → Grown j m (b ++ (32 ∷ [])) n → Grown k n (c ++ (10 ∷ [])) r
+pub three-shown : {i j k : ℕ} {l m n r : Line} (a b c : List ℕ) → l ≡ blank
+    → Grown i l (a ++ ascii " ") m → Grown j m (b ++ ascii " ") n → Grown k n (c ++ ascii "\n") r
     → i + j + k ≤ 64 → Shows (row (a ∷ b ∷ c ∷ [])) r
 unfolding row
 three-shown a b c e f g h = shown e (simp append-assoc at (grown-more (grown-more f g) h))

@@ -1,20 +1,24 @@
--- No good file is refused: the bytes that document 01 prescribes for a header and pixels are taken, and mean that header and those pixels. And no
--- other file is taken: every taken file is the one for its fields and pixels. Assumes nothing.
-use mathlib.Core.Path.{_≡_, refl, ap, _∙_}
-use mathlib.Core.Bool.{Bool, true, false}
+-- No good file is refused: the bytes that document 01 prescribes for a header and pixels are taken, and mean that header and
+-- those pixels. And no other file is taken: every taken file is the one for its fields and pixels. Assumes nothing.
+use mathlib.Core.Path.{_≡_, refl, sym, ap, _∙_}
+use mathlib.Core.Bool.{Bool, true, false, cond}
 use mathlib.Core.List.{List, [], _∷_}
 use Prim.Native.Nat.{ℕ, zero, suc, _+_, _-_, _*_, _/_, _%_, _≤_, _<_}
 use native.Mathlib.Omega.{arith}
 use borrow.Author.Tests.{le-ltb, eq-eqb, ltb-false, eqb-true, not-false}
-use lib.Dec.{eqb, lit<}
+use lib.Dec.{lit<}
 use lib.Ieee.{binary32, ofBits}
 use lib.ListN.{length, drop, length-drop}
 use lib.Seq.{drop-cons}
 use Rattle.params.specs.declared.answers.Answer.{Answer}
+use Rattle.params.specs.declared.settings.PeakFitMode.{PeakFitMode}
+use Rattle.params.specs.declared.settings.NumberedMode.{NumberedMode}
+use Rattle.params.specs.declared.settings.NumberedMode.the-variants as numbered
+use Rattle.params.specs.Settings.{modeNumbered}
 use Rattle.frame.specs.declared.Header.{Header}
 use Rattle.frame.specs.declared.Reading.{Reading}
 use Rattle.frame.specs.declared.Reading.the-variants.{Frame, Refused}
-use Rattle.frame.specs.FrameFile.{byteAt, halfAt, wordAt, fitOf, headerOf, pick, readOf}
+use Rattle.frame.specs.FrameFile.{byteAt, halfAt, wordAt, headerOf, withMode, headerRead, readOf}
 
 -- what the fields hold, as numbers
 pub record Fields : Type 0 where
@@ -35,7 +39,7 @@ pub record InRange (f : Fields) : Type 0 where
   pub ray : f .ray < 256
   pub upsampling : f .upsampling < 256
   pub blur : f .blur < 256
-  pub mode : f .mode ≤ 1
+  pub mode : f .mode < 256
   pub suppression : f .suppression < 256
   pub least : f .least < 65536
   pub threshold : f .threshold < 4294967296
@@ -52,16 +56,16 @@ fileOf f pixels =
     ∷ f .threshold / 16777216 ∷ f .threshold / 65536 % 256 ∷ f .threshold / 256 % 256 ∷ f .threshold % 256
     ∷ pixels
 
--- the header with these numbers
-abbrev pub headerWith : Fields → Header
-headerWith f = record {
+-- the header with these numbers, where the mode's stands for `fit`
+abbrev pub headerWith : Fields → PeakFitMode → Header
+headerWith f fit = record {
   width = f .width;
   height = f .height;
   params = record {
     «ray_radius» = f .ray;
     «image_upsample» = f .upsampling;
     «response_blur_radius» = f .blur;
-    «peak_fit» = fitOf (eqb (f .mode) 0);
+    «peak_fit» = fit;
     «nms_radius» = f .suppression;
     «min_cluster_size» = f .least;
     «threshold_rel» = ofBits binary32 (f .threshold);
@@ -80,12 +84,24 @@ half-bytes n h = omega arith
 word-bytes : (n : ℕ) → n < 4294967296 → (n / 16777216 < 256) × (n / 65536 % 256 < 256) × (n / 256 % 256 < 256) × (n % 256 < 256)
 word-bytes n h = omega arith
 
-pub good-file-taken : (limit : ℕ) (f : Fields) (pixels : List ℕ) → f .mode ≤ 1 → 20 + length pixels ≤ limit → readOf limit (fileOf f pixels) ≡ Frame (headerWith f)
-unfolding readOf headerOf
-good-file-taken limit f pixels m h =
+pub good-file-taken : (limit : ℕ) (f : Fields) (fit : PeakFitMode) (pixels : List ℕ)
+    → modeNumbered (f .mode) ≡ numbered.Known fit → 20 + length pixels ≤ limit
+    → readOf limit (fileOf f pixels) ≡ Frame (headerWith f fit)
+unfolding readOf headerRead headerOf
+good-file-taken limit f fit pixels m h =
     let n = length (fileOf f pixels) in
     let long : n ≡ 20 + length pixels = omega arith in
-    rw (le-ltb limit n (omega arith), le-ltb n 20 (omega arith), words (15 + length pixels), eq-eqb (15 + length pixels) (n - 5) (omega arith), le-ltb 1 (f .mode) m, halves (f .width), halves (f .height), halves (f .least), words (f .threshold))
+    rw (
+      le-ltb limit n (omega arith),
+      le-ltb n 20 (omega arith),
+      words (15 + length pixels),
+      eq-eqb (15 + length pixels) (n - 5) (omega arith),
+      m,
+      halves (f .width),
+      halves (f .height),
+      halves (f .least),
+      words (f .threshold),
+    )
 
 pub good-file-pixels : (f : Fields) (pixels : List ℕ) → drop 20 (fileOf f pixels) ≡ pixels
 good-file-pixels f pixels = refl
@@ -95,26 +111,31 @@ abbrev pub Bytes : List ℕ → Type 0
 Bytes [] = Unit {0}
 Bytes (b ∷ l) = (b < 256) × Bytes l
 
-pub good-file-bytes : (f : Fields) (pixels : List ℕ) → InRange f → Bytes pixels → 15 + length pixels < 4294967296 → Bytes (fileOf f pixels)
+pub good-file-bytes : (f : Fields) (pixels : List ℕ) → InRange f → Bytes pixels → 15 + length pixels < 4294967296
+    → Bytes (fileOf f pixels)
 good-file-bytes f pixels r b h =
-    let n = 15 + length pixels in (
+    let n = word-bytes (15 + length pixels) h in
+    let w = half-bytes (f .width) (r .width) in
+    let v = half-bytes (f .height) (r .height) in
+    let l = half-bytes (f .least) (r .least) in
+    let t = word-bytes (f .threshold) (r .threshold) in (
       lit< tt,
       (
-        word-bytes n h .0,
+        n .0,
         (
-          word-bytes n h .1,
+          n .1,
           (
-            word-bytes n h .2,
+            n .2,
             (
-              word-bytes n h .3,
+              n .3,
               (
-                half-bytes (f .width) (r .width) .0,
+                w .0,
                 (
-                  half-bytes (f .width) (r .width) .1,
+                  w .1,
                   (
-                    half-bytes (f .height) (r .height) .0,
+                    v .0,
                     (
-                      half-bytes (f .height) (r .height) .1,
+                      v .1,
                       (
                         r .ray,
                         (
@@ -122,29 +143,8 @@ good-file-bytes f pixels r b h =
                           (
                             r .blur,
                             (
-                              omega arith,
-                              (
-                                r .suppression,
-                                (
-                                  half-bytes (f .least) (r .least) .0,
-                                  (
-                                    half-bytes (f .least) (r .least) .1,
-                                    (
-                                      word-bytes (f .threshold) (r .threshold) .0,
-                                      (
-                                        word-bytes (f .threshold) (r .threshold) .1,
-                                        (
-                                          word-bytes (f .threshold) (r .threshold) .2,
-                                          (
-                                            word-bytes (f .threshold) (r .threshold) .3,
-                                            b,
-                                          ),
-                                        ),
-                                      ),
-                                    ),
-                                  ),
-                                ),
-                              ),
+                              r .mode,
+                              (r .suppression, (l .0, (l .1, (t .0, (t .1, (t .2, (t .3, b))))))),
                             ),
                           ),
                         ),
@@ -196,19 +196,30 @@ word-back : (a b c d : ℕ) → b < 256 → c < 256 → d < 256 → let n = (a *
     (n / 16777216 ≡ a) × (n / 65536 % 256 ≡ b) × (n / 256 % 256 ≡ c) × (n % 256 ≡ d)
 word-back a b c d h i j = omega arith
 
-past : (t : Bool) (a : Answer) (b : Reading) (h : Header) → pick t (Refused a) b ≡ Frame h → (t ≡ false) × (b ≡ Frame h)
+past : (t : Bool) (a : Answer) (b : Reading) (h : Header) → cond t (Refused a) b ≡ Frame h → (t ≡ false) × (b ≡ Frame h)
 past true a b h e = absurd (let z : _≡_ {A = ℕ} 0 1 = cc in omega arith)
 past false a b h e = (refl, e)
 
+-- a header that was taken has the mode that its number stands for
+with-mode : (file : List ℕ) (m : NumberedMode) (h : Header) → withMode file m ≡ Frame h
+    → (m ≡ numbered.Known (h .params .«peak_fit»)) × (h ≡ headerOf file (h .params .«peak_fit»))
+unfolding headerOf
+with-mode file (numbered.Known fit) h e =
+    let is : h ≡ headerOf file fit = cc in
+    rw is (refl, refl)
+with-mode file (numbered.Refused a) h e = absurd (let z : _≡_ {A = ℕ} 0 1 = cc in omega arith)
+
 pub taken-file-is : (limit : ℕ) (file : List ℕ) (h : Header) → Bytes file → readOf limit file ≡ Frame h
-    → (file ≡ fileOf (fieldsOf file) (drop 20 file)) × (byteAt file 12 ≤ 1) × (length file ≤ limit) × (h ≡ headerWith (fieldsOf file))
-unfolding readOf headerOf
+    → (file ≡ fileOf (fieldsOf file) (drop 20 file)) × (length file ≤ limit)
+    × (modeNumbered (byteAt file 12) ≡ numbered.Known (h .params .«peak_fit»))
+    × (h ≡ headerWith (fieldsOf file) (h .params .«peak_fit»))
+unfolding readOf headerRead headerOf
 taken-file-is limit file h b e =
     let a = past _ _ _ h e in
     let c = past _ _ _ h (a .1) in
     let d = past _ _ _ h (c .1) in
     let f = past _ _ _ h (d .1) in
-    let g = past _ _ _ h (f .1) in
+    let g = with-mode file (modeNumbered (byteAt file 12)) h (f .1) in
     let long : 20 ≤ length file = ltb-false _ _ (c .0) in
     let one : byteAt file 0 ≡ 1 = eqb-true _ _ (not-false _ (d .0)) in
     let stated : wordAt file 1 ≡ length file - 5 = eqb-true _ _ (not-false _ (f .0)) in
@@ -221,7 +232,7 @@ taken-file-is limit file h b e =
     let t = word-back (byteAt file 16) (byteAt file 17) (byteAt file 18) (byteAt file 19) (p 17) (p 18) (p 19) in (
       opened-is 20 0 file long
           ∙ rw (rest, s .0, s .1, s .2, s .3, w .0, w .1, v .0, v .1, l .0, l .1, t .0, t .1, t .2, t .3, one),
-      ltb-false _ _ (g .0),
       ltb-false _ _ (a .0),
-      cc (g .1),
+      g .0,
+      g .1,
     )
