@@ -3,13 +3,14 @@
 use mathlib.Core.Path.{_≡_, sym, ap, _∙_}
 use mathlib.Core.Bool.{Bool, true, false}
 use mathlib.Core.List.{[], _∷_, _++_}
-use Prim.Native.Nat.{ℕ, _+_, _-_, _/_, _%_, _^_, suc, _≤_, _<_}
+use Prim.Native.Nat.{ℕ, _+_, _-_, _/_, _%_, _≤_, _<_}
 use native.Mathlib.Nat.{lt-of-lt-of-le, mod-lt}
 use native.Mathlib.Omega.{arith}
+use lib.Dec.{lit≤}
 use lib.ListN.{length, length-append}
 use Rattle.frame.specs.declared.Line.{Line}
 use Rattle.frame.specs.Printed.{digitOf, numeral}
-use Rattle.frame.specs.Lines.{appended, Grown}
+use Rattle.frame.specs.Lines.{Short, appended, Grown}
 use Rattle.frame.proofs.Numerals.{single, single-yes, falls, numeral-last, numeral-more, numeral-some, numeral-most}
 use Rattle.frame.proofs.Appended.{appended-more, appended-len}
 
@@ -68,29 +69,29 @@ module _ {line : Line} {base least n t : ℕ} (due : Due line base least n t) {o
             ∙ appended-more line (numeral base m (n / base)) (d ∷ [])
             ∙ ap (λ (c : ℕ). appended line (numeral base m (n / base) ++ (c ∷ []))) f)
 
--- ---- a numeral of at most k digits, and a byte behind it
+-- ---- a numeral that is short, and a byte behind it
 
-pub record Few (k base least n : ℕ) : Type 0 where
-  pub two : 2 ≤ base
-  pub most : base ≤ 16
-  pub some : 1 ≤ k
-  pub few : least ≤ k
-  pub small : n < base ^ k
+module _ {base least n : ℕ} (s : Short base least n) (line : Line) where
+  most : length (numeral base least n) ≤ 20
+  most = numeral-most base (s .two) least n 20 (lit≤ tt) (s .few) (s .small)
 
-module _ {k base least n : ℕ} (f : Few k base least n) (line : Line) where
-  short : length (numeral base least n) ≤ k
-  short = numeral-most base (f .two) least n k (f .some) (f .few) (f .small)
-
-  module _ (room : line .len + suc k ≤ 64) where
+  module _ (room : line .len + 21 ≤ 64) where
     pub numeral-asks : (2 ≤ base) × (base ≤ 16) × (line .len + length (numeral base least n) ≤ 64)
-    numeral-asks = (f .two, f .most, omega (arith, short))
+    numeral-asks = (s .two, s .most, omega (arith, most))
 
     pub end-room : {h : Line} → h ≡ appended line (numeral base least n) → h .len < 64
-    end-room e = omega (arith, short, appended-len line (numeral base least n) e)
+    end-room e = omega (arith, most, appended-len line (numeral base least n) e)
 
   pub ended : (end : ℕ) {h r : Line} → h ≡ appended line (numeral base least n) → r ≡ appended h (end ∷ [])
-      → Grown (suc k) line (numeral base least n ++ (end ∷ [])) r
+      → Grown 21 line (numeral base least n ++ (end ∷ [])) r
   ended end e g = record {
     is = g ∙ ap (λ (x : Line). appended x (end ∷ [])) e ∙ appended-more line (numeral base least n) (end ∷ []);
-    most = omega (arith, short, length-append (numeral base least n) (end ∷ []));
+    most = omega (arith, most, length-append (numeral base least n) (end ∷ []));
   }
+
+-- a machine number in decimal, and 32 bits in eight digits
+pub decimal-short : (n : ℕ) → n < 18446744073709551616 → Short 10 1 n
+decimal-short n h = record { two = lit≤ tt; most = lit≤ tt; few = lit≤ tt; small = omega arith }
+
+pub word-short : (n : ℕ) → n < 4294967296 → Short 16 8 n
+word-short n h = record { two = lit≤ tt; most = lit≤ tt; few = lit≤ tt; small = omega arith }

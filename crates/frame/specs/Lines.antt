@@ -1,8 +1,8 @@
--- A printed line as the library hands it out: an array of 64 bytes that begins with the line, and the line's length; and how
--- it is put together.
+-- A printed line as the library hands it out: an array of 64 bytes that begins with the line, and the line's length;
+-- and how it is put together.
 use mathlib.Core.Path.{_≡_}
 use mathlib.Core.List.{List, _++_}
-use Prim.Native.Nat.{ℕ, _+_, _-_, _≤_}
+use Prim.Native.Nat.{ℕ, _+_, _-_, _^_, _≤_, _<_}
 use lib.ListN.{length, replicate}
 use lib.Seq.{sets}
 use Rattle.frame.specs.declared.Line.{Line}
@@ -15,6 +15,14 @@ lineOf text = record { bytes = text ++ replicate (64 - length text) 0; len = len
 pub record Shows (text : List ℕ) (line : Line) : Type 0 where
   pub is : line ≡ lineOf text
   pub fits : line .len ≤ length (line .bytes)
+
+-- a numeral of at most 20 digits, as many as a machine number has in decimal: three of them, each with a byte behind it, fit
+-- a line
+pub record Short (base least n : ℕ) : Type 0 where
+  pub two : 2 ≤ base
+  pub most : base ≤ 16
+  pub few : least ≤ 20
+  pub small : n < base ^ 20
 
 -- the line before anything is appended
 abbrev pub blank : Line

@@ -1,9 +1,10 @@
--- `frame::text::refused` meets its contract Assumes nothing.
+-- `frame::text::refused` meets its contract. Assumes nothing.
 use native.Mathlib.Omega.{arith}
 use borrow.Author.Needs.{needs}
 use lib.Dec.{lit≤}
 use Rattle.frame.specs.Printed.{refusedLine, row}
 use Rattle.frame.proofs.Appended.{empty-len, appended-len, grown, grown-more, shown}
+use Rattle.frame.proofs.Digits.{decimal-short}
 use Rattle.frame.proofs.text.refused.Statement.{statement}
 use Rattle.frame.proofs.text.refused.Tie as tie
 
@@ -16,18 +17,19 @@ slice-aggregate-append c = search needs
 append-requires : tie.Need-append-requires
 append-requires c κs = omega (arith, empty-len (c .before .empty .ensures))
 
-decimal-requires : tie.Need-decimal-requires
-decimal-requires c κs =
-    omega (arith, empty-len (c .before .before .empty .ensures), appended-len _ _ (c .append .ensures))
+field-requires : tie.Need-field-requires
+field-requires c κs =
+    let blank = empty-len (c .before .before .empty .ensures) in
+    (decimal-short _ (omega arith), omega (arith, blank, appended-len _ _ (c .append .ensures)))
 
 returns : tie.Need-returns
 unfolding refusedLine row
 returns c =
     let word = c .before in
-    let fields = grown-more (grown 8 (word .append .ensures) (lit≤ tt)) (c .decimal .ensures) in
+    let fields = grown-more (grown 8 (word .append .ensures) (lit≤ tt)) (c .field .ensures) in
     shown (word .before .before .empty .ensures) fields (lit≤ tt)
 
 pub refused-spec : {M : Type 1} → statement M
 refused-spec =
     tie.close
-    (tie.spec empty-requires slice-aggregate-append append-requires decimal-requires returns)
+    (tie.spec empty-requires slice-aggregate-append append-requires field-requires returns)
