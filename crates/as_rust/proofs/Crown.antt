@@ -21,12 +21,12 @@ use Rattle.grid.specs.Each.{each, each-each, each-ext, each-one, take-each, len
 use Rattle.grid.specs.Rect.{Place}
 use Rattle.grid.specs.Over.{over, written}
 use Rattle.grid.specs.All.{all-map, each-same}
-use Rattle.params.specs.declared.RadonDetectorParams.{RadonDetectorParams}
-use Rattle.params.specs.declared.PeakFitMode.{PeakFitMode}
-use Rattle.params.specs.declared.PeakFitMode.the-variants.{Parabolic, Gaussian}
+use Rattle.params.specs.declared.settings.RadonDetectorParams.{RadonDetectorParams}
+use Rattle.params.specs.declared.settings.PeakFitMode.{PeakFitMode}
+use Rattle.params.specs.declared.settings.PeakFitMode.the-variants.{Parabolic, Gaussian}
 use Rattle.params.specs.Settings.{defaults, factorOf, rayOf}
 use Rattle.params.specs.Answers.{numberOf}
-use Rattle.params.specs.Accepted.{map-accepted, all-accepted}
+use Rattle.params.proofs.Accepted.{map-accepted, all-accepted}
 use Rattle.scalar.specs.Log.{logOf, terms, high, lowest, highest, difference, unitsOf, cutThird}
 use Rattle.scalar.specs.declared.Log.the-variants.{Value}
 use Rattle.scalar.proofs.Facts.{log-inside}

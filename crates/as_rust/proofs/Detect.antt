@@ -15,12 +15,12 @@ use Rattle.grid.specs.Plane.{pixel-in}
 use Rattle.grid.specs.Ways.{pixel}
 use Rattle.grid.specs.Each.{each, each-more, each-none, keep, keep-none, keep-yes, keep-no}
 use Rattle.grid.specs.Rect.{Place, place, before, rect, range, from, line}
-use Rattle.params.specs.declared.RadonDetectorParams.{RadonDetectorParams}
-use Rattle.params.specs.declared.PeakFitMode.{PeakFitMode}
-use Rattle.params.specs.declared.PeakFitMode.the-variants.{Parabolic, Gaussian}
+use Rattle.params.specs.declared.settings.RadonDetectorParams.{RadonDetectorParams}
+use Rattle.params.specs.declared.settings.PeakFitMode.{PeakFitMode}
+use Rattle.params.specs.declared.settings.PeakFitMode.the-variants.{Parabolic, Gaussian}
 use Rattle.params.specs.Settings.{factorOf, rayOf}
 use Rattle.params.specs.Coordinates.{toInput, scaleOf}
-use Rattle.params.specs.Accepted.{ListPasses}
+use Rattle.params.proofs.Accepted.{ListPasses}
 use Rattle.scalar.specs.Log.{logOf, terms, high}
 use Rattle.scalar.specs.declared.Log.the-variants.{Value}
 use Rattle.detect.specs.PeakFit.{flat, denominator, usable, allUsable, allAbove, fitOf}

@@ -14,7 +14,7 @@ use lib.Ieee.{Float, nan}
 use Rattle.grid.specs.Fill.{filled, filled-intro, getD-filled, length-filled, filled-filled}
 use Rattle.grid.specs.Plane.{plane, plane-ext, getD-plane, pixel-in}
 use Rattle.grid.specs.Ways.{Way, along, down, fall, rise, pixel, runSum, run-ext}
-use Rattle.params.specs.declared.RadonDetectorParams.{RadonDetectorParams}
+use Rattle.params.specs.declared.settings.RadonDetectorParams.{RadonDetectorParams}
 use Rattle.params.specs.Settings.{factorOf, rayOf}
 use Rattle.response.specs.Upsample.{upAt, workAt}
 use Rattle.response.specs.Quarter.{work-most}

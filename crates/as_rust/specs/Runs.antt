@@ -11,8 +11,8 @@ use Rattle.grid.specs.Ways.{pixel}
 use Rattle.grid.specs.Each.{each}
 use Rattle.grid.specs.Rect.{Place}
 use Rattle.grid.specs.Over.{written}
-use Rattle.params.specs.declared.RadonDetectorParams.{RadonDetectorParams}
-use Rattle.params.specs.declared.Outcome.{Outcome}
+use Rattle.params.specs.declared.settings.RadonDetectorParams.{RadonDetectorParams}
+use Rattle.params.specs.declared.answers.Outcome.{Outcome}
 use Rattle.params.specs.Settings.{factorOf}
 use Rattle.scalar.specs.Log.{logOf, terms, high}
 use Rattle.scalar.specs.declared.Log.the-variants.{Value}

@@ -9,19 +9,19 @@ use lib.ListN.{length}
 use lib.Dec.{ltb, leb, eqb}
 use lib.Ieee.{Float}
 use Rattle.grid.specs.Over.{written}
-use Rattle.params.specs.declared.Answer.{Answer}
-use Rattle.params.specs.declared.Answer.the-variants.{Complete, ListFull, SideTooLong, TooManyPixels}
-use Rattle.params.specs.declared.Outcome.{Outcome}
-use Rattle.params.specs.declared.RadonDetectorParams.{RadonDetectorParams}
+use Rattle.params.specs.declared.answers.Answer.{Answer}
+use Rattle.params.specs.declared.answers.Answer.the-variants.{Complete, ListFull, SideTooLong, TooManyPixels}
+use Rattle.params.specs.declared.answers.Outcome.{Outcome}
+use Rattle.params.specs.declared.settings.RadonDetectorParams.{RadonDetectorParams}
 use Rattle.params.specs.Answers.{numberOf, refused}
-use Rattle.params.specs.Refusals.{pick, orElse, mapRefusal, listRefusal, roomRefusal}
-use Rattle.params.specs.Accepted.{both-pass, map-passes, list-passes, room-passes}
+use Rattle.params.specs.Refusals.{orElse, mapRefusal, listRefusal, roomRefusal}
+use Rattle.params.proofs.Accepted.{both-pass, map-passes, list-passes, room-passes}
 use Rattle.detect.specs.Window.{value}
 use Rattle.detect.specs.Corners.{numbers, stride}
 use Rattle.detect.specs.Detected.{workingRefusal, peaksRefusal, refusalFor, foundIn, fullOr, outcomeOf, listOf}
 use Rattle.detect.specs.Scan.{Asked}
 
-passed : (p q t : Bool) → numberOf (pick (p || q) SideTooLong (pick t TooManyPixels Complete)) ≡ 0 → (p ≡ false) × (q ≡ false)
+passed : (p q t : Bool) → numberOf (cond (p || q) SideTooLong (cond t TooManyPixels Complete)) ≡ 0 → (p ≡ false) × (q ≡ false)
 passed true q t e = absurd (omega arith)
 passed false true t e = absurd (omega arith)
 passed false false t e = (refl, refl)

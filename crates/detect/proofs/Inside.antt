@@ -16,7 +16,7 @@ use Rattle.grid.specs.Each.{each, keep, any, count}
 use Rattle.grid.specs.Rect.{Place, place, rect}
 use Rattle.grid.specs.Over.{over, written}
 use Rattle.grid.specs.All.{all, all-map, all-keep, all-take, all-rect, Between, InRect, each-same, keep-same, any-same, foldl-same}
-use Rattle.params.specs.declared.RadonDetectorParams.{RadonDetectorParams}
+use Rattle.params.specs.declared.settings.RadonDetectorParams.{RadonDetectorParams}
 use Rattle.params.specs.Settings.{rayOf}
 use Rattle.detect.specs.declared.saddle.SaddleTest.{SaddleTest}
 use Rattle.detect.specs.declared.saddle.Sums.{Sums}

@@ -14,7 +14,7 @@ use Rattle.grid.specs.Fold.{fold, fold-keeps}
 use Rattle.grid.specs.Plane.{plane}
 use Rattle.grid.specs.Each.{count}
 use Rattle.grid.specs.Rect.{Place, place, any-rect-none}
-use Rattle.params.specs.declared.RadonDetectorParams.{RadonDetectorParams}
+use Rattle.params.specs.declared.settings.RadonDetectorParams.{RadonDetectorParams}
 use Rattle.params.specs.Answers.{numberOf}
 use Rattle.detect.specs.declared.saddle.Saddle.the-variants.{Yes}
 use Rattle.detect.specs.declared.verdict.Verdict.the-variants.{NotAbove, Kept}

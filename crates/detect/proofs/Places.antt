@@ -14,7 +14,7 @@ use Rattle.float.specs.Ranged.{Ranged, exact, ranged-whole, ranged-wider, range
 use Rattle.float.specs.Shifted.{Within, within-of-le, add-within, held-whole}
 use Rattle.grid.specs.Rect.{Place}
 use Rattle.grid.specs.All.{all, all-keep, all-rect, InRect}
-use Rattle.params.specs.declared.RadonDetectorParams.{RadonDetectorParams}
+use Rattle.params.specs.declared.settings.RadonDetectorParams.{RadonDetectorParams}
 use Rattle.params.specs.Settings.{factorOf}
 use Rattle.params.specs.Coordinates.{toInput}
 use Rattle.detect.specs.Window.{at}

@@ -17,7 +17,7 @@ use Rattle.grid.specs.Plane.{plane}
 use Rattle.grid.specs.Each.{keep-none}
 use Rattle.grid.specs.Rect.{Place, place, rect, any-in, Across, across-none, across-more, across-skip, down-more, Down, down-none, down-all, length-rect}
 use Rattle.grid.specs.Over.{written, Listed, listed-none, Onward, onward-none, onward-no, onward-full, onward-put}
-use Rattle.params.specs.declared.RadonDetectorParams.{RadonDetectorParams}
+use Rattle.params.specs.declared.settings.RadonDetectorParams.{RadonDetectorParams}
 use Rattle.params.specs.Settings.{rayOf}
 use Rattle.detect.specs.declared.saddle.SaddleTest.{SaddleTest}
 use Rattle.detect.specs.declared.saddle.Saddle.{Saddle}

@@ -7,8 +7,8 @@ use lib.ListN.{length, take, drop}
 use lib.Dec.{eqb, lit<}
 use lib.Ieee.{Float}
 use Rattle.grid.specs.Over.{shorter, past}
-use Rattle.params.specs.declared.RadonDetectorParams.{RadonDetectorParams}
-use Rattle.params.specs.declared.Outcome.{Outcome}
+use Rattle.params.specs.declared.settings.RadonDetectorParams.{RadonDetectorParams}
+use Rattle.params.specs.declared.answers.Outcome.{Outcome}
 use Rattle.params.specs.Answers.{numberOf, refused}
 use Rattle.detect.specs.Window.{value}
 use Rattle.detect.specs.Corners.{numbers, stride}

@@ -11,7 +11,7 @@ use Rattle.grid.specs.Fold.{fold}
 use Rattle.grid.specs.Plane.{plane}
 use Rattle.grid.specs.Each.{keep}
 use Rattle.grid.specs.Rect.{Place, rect}
-use Rattle.params.specs.declared.RadonDetectorParams.{RadonDetectorParams}
+use Rattle.params.specs.declared.settings.RadonDetectorParams.{RadonDetectorParams}
 use Rattle.params.specs.Settings.{rayOf}
 use Rattle.params.specs.Coordinates.{toInput}
 use Rattle.detect.specs.declared.saddle.Saddle.{Saddle}

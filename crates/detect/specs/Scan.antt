@@ -6,7 +6,7 @@ use mathlib.Core.List.{List}
 use lib.Ieee.{Float}
 use Rattle.grid.specs.Rect.{Place, rect}
 use Rattle.grid.specs.Over.{Onward}
-use Rattle.params.specs.declared.RadonDetectorParams.{RadonDetectorParams}
+use Rattle.params.specs.declared.settings.RadonDetectorParams.{RadonDetectorParams}
 use Rattle.params.specs.Settings.{rayOf}
 use Rattle.detect.specs.declared.saddle.SaddleTest.{SaddleTest}
 use Rattle.detect.specs.Saddle.{saddleOf}

@@ -44,8 +44,8 @@ fn judge(w: usize, h: usize, params: RadonDetectorParams, room: usize) -> Answer
     if size.number() != 0 {
         return size;
     }
-    let map = params::judge_map(params);
-    let list = params::judge_list(params);
+    let map = params::judge_map_settings(params);
+    let list = params::judge_list_settings(params);
     let lent = params::judge_room(w * h, room);
     map.or_else(list.or_else(lent))
 }

@@ -11,13 +11,13 @@ use Rattle.grid.specs.Fill.{length-filled}
 use Rattle.grid.specs.Plane.{getD-plane, pixel-in}
 use Rattle.grid.specs.Ways.{pixel}
 use Rattle.grid.specs.Over.{written}
-use Rattle.params.specs.declared.RadonDetectorParams.{RadonDetectorParams}
-use Rattle.params.specs.declared.Answer.{Answer}
-use Rattle.params.specs.declared.Outcome.{Outcome}
+use Rattle.params.specs.declared.settings.RadonDetectorParams.{RadonDetectorParams}
+use Rattle.params.specs.declared.answers.Answer.{Answer}
+use Rattle.params.specs.declared.answers.Outcome.{Outcome}
 use Rattle.params.specs.Settings.{factorOf, rayOf}
 use Rattle.params.specs.Answers.{numberOf, refused}
 use Rattle.params.specs.Refusals.{orElse, sizeRefusal, mapRefusal, listRefusal, roomRefusal, pixelsOf, refusalOf, mapRefusalOf}
-use Rattle.params.specs.Accepted.{both-pass, sizes-pass}
+use Rattle.params.proofs.Accepted.{both-pass, sizes-pass}
 use Rattle.response.specs.declared.Mapped.{Mapped}
 use Rattle.response.specs.Map.{Buffers as MapBuffers, roomOf, sideOf, workOf, mapOf, mapped, mappedBy, mappedOf, buffersOf as mapBuffersOf}
 use Rattle.response.specs.Runs.{Runs, runs-of, side-most}

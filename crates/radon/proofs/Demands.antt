@@ -19,7 +19,7 @@ use Rattle.grid.specs.Ways.{pixel, Inside}
 use Rattle.scalar.specs.Log.{logOf, terms, high, lowest, highest, Near}
 use Rattle.scalar.specs.declared.Log.the-variants.{Value}
 use Rattle.scalar.proofs.Facts.{log-near, log-inside}
-use Rattle.params.specs.declared.RadonDetectorParams.{RadonDetectorParams}
+use Rattle.params.specs.declared.settings.RadonDetectorParams.{RadonDetectorParams}
 use Rattle.params.specs.Settings.{factorOf, rayOf}
 use Rattle.params.specs.Answers.{numberOf, refused}
 use Rattle.response.specs.Map.{roomOf, sideOf}

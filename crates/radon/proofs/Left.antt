@@ -18,7 +18,7 @@ use Rattle.grid.specs.Plane.{pixel-in, column-in, row-number-in, plane-ext}
 use Rattle.grid.specs.Ways.{pixel}
 use Rattle.grid.specs.Over.{written}
 use Rattle.scalar.specs.Log.{high, lowest, highest}
-use Rattle.params.specs.declared.RadonDetectorParams.{RadonDetectorParams}
+use Rattle.params.specs.declared.settings.RadonDetectorParams.{RadonDetectorParams}
 use Rattle.params.specs.Settings.{factorOf, rayOf}
 use Rattle.params.specs.Answers.{numberOf}
 use Rattle.response.specs.Map.{Buffers as MapBuffers, sideOf, workOf, mapOf, mapped, mappedBy}

@@ -17,12 +17,12 @@ use Rattle.grid.specs.Each.{each, keep, count, count-most}
 use Rattle.grid.specs.Rect.{Place, place}
 use Rattle.grid.specs.Over.{written, opening, shorter, past}
 use Rattle.grid.specs.Entries.{all-at, each-entry}
-use Rattle.params.specs.declared.RadonDetectorParams.{RadonDetectorParams}
-use Rattle.params.specs.declared.Answer.the-variants.{Complete, ListFull}
-use Rattle.params.specs.declared.Outcome.{Outcome}
+use Rattle.params.specs.declared.settings.RadonDetectorParams.{RadonDetectorParams}
+use Rattle.params.specs.declared.answers.Answer.the-variants.{Complete, ListFull}
+use Rattle.params.specs.declared.answers.Outcome.{Outcome}
 use Rattle.params.specs.Settings.{factorOf, rayOf}
 use Rattle.params.specs.Answers.{numberOf}
-use Rattle.params.specs.Accepted.{all-accepted}
+use Rattle.params.proofs.Accepted.{all-accepted}
 use Rattle.response.specs.Map.{roomOf, sideOf, mapOf}
 use Rattle.response.specs.MapFacts.{SameWritten, same-written, map-number}
 use Rattle.response.specs.Runs.{Runs}

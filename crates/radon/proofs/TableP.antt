@@ -13,7 +13,7 @@ use Rattle.grid.specs.Fold.{fold}
 use Rattle.grid.specs.Each.{each, keep}
 use Rattle.grid.specs.Rect.{from, range, line, rect}
 use Rattle.grid.specs.Ways.{pixel, along, down, fall, rise, ray}
-use Rattle.params.specs.declared.PeakFitMode.the-variants.{Parabolic}
+use Rattle.params.specs.declared.settings.PeakFitMode.the-variants.{Parabolic}
 use Rattle.response.specs.Upsample.{upAt}
 use Rattle.response.specs.Response.{raySpread, square, responseAt}
 use Rattle.response.specs.Blur.{valueAt, windowSum, rowMean, columnMean, blurAt}

@@ -12,8 +12,8 @@ use Rattle.grid.specs.Each.{each, keep, any, count}
 use Rattle.grid.specs.Rect.{from, range, line, rect}
 use Rattle.grid.specs.Ways.{ray}
 use Rattle.scalar.specs.Root.{rootOf}
-use Rattle.params.specs.declared.PeakFitMode.the-variants.{Parabolic}
-use Rattle.params.specs.declared.RadonDetectorParams.{RadonDetectorParams}
+use Rattle.params.specs.declared.settings.PeakFitMode.the-variants.{Parabolic}
+use Rattle.params.specs.declared.settings.RadonDetectorParams.{RadonDetectorParams}
 use Rattle.params.specs.Coordinates.{toInput}
 use Rattle.params.specs.Answers.{numberOf}
 use Rattle.params.specs.Refusals.{sizeRefusal, mapRefusal, listRefusal, roomRefusal, refusalOf}

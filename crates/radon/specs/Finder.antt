@@ -6,9 +6,9 @@ use lib.Ieee.{Float}
 use Rattle.grid.specs.Ways.{pixel}
 use Rattle.grid.specs.Rect.{Place}
 use Rattle.grid.specs.Over.{written}
-use Rattle.params.specs.declared.RadonDetectorParams.{RadonDetectorParams}
-use Rattle.params.specs.declared.Answer.{Answer}
-use Rattle.params.specs.declared.Outcome.{Outcome}
+use Rattle.params.specs.declared.settings.RadonDetectorParams.{RadonDetectorParams}
+use Rattle.params.specs.declared.answers.Answer.{Answer}
+use Rattle.params.specs.declared.answers.Outcome.{Outcome}
 use Rattle.params.specs.Answers.{refused}
 use Rattle.params.specs.Refusals.{refusalOf}
 use Rattle.response.specs.Map.{Buffers as MapBuffers, roomOf, sideOf, workOf, mapOf, mapped, accepts, chosen}

@@ -68,7 +68,7 @@ pub fn radon_corners_u8(
         working.len(),
         smaller(tables, smaller(response.len(), scratch.len())),
     );
-    let answer = params::judge(w, h, img.len(), p, room);
+    let answer = params::judge_finder_call(w, h, img.len(), p, room);
     if answer.number() != 0 {
         return Outcome::refusal(answer);
     }

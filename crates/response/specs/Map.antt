@@ -9,9 +9,9 @@ use lib.Ieee.{Float}
 use Rattle.grid.specs.Fill.{filled}
 use Rattle.grid.specs.Plane.{plane}
 use Rattle.grid.specs.Ways.{pixel, along, down, fall, rise, runSum}
-use Rattle.params.specs.declared.RadonDetectorParams.{RadonDetectorParams}
-use Rattle.params.specs.declared.Answer.{Answer}
-use Rattle.params.specs.declared.Answer.the-variants.{Complete}
+use Rattle.params.specs.declared.settings.RadonDetectorParams.{RadonDetectorParams}
+use Rattle.params.specs.declared.answers.Answer.{Answer}
+use Rattle.params.specs.declared.answers.Answer.the-variants.{Complete}
 use Rattle.params.specs.Settings.{factorOf, rayOf}
 use Rattle.params.specs.Answers.{numberOf}
 use Rattle.params.specs.Refusals.{mapRefusalOf}

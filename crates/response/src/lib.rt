@@ -125,7 +125,7 @@ pub fn radon_response_u8(
         working.len(),
         smaller(tables, smaller(response.len(), scratch.len())),
     );
-    let answer = params::judge_for_map(w, h, img.len(), p, room);
+    let answer = params::judge_map_call(w, h, img.len(), p, room);
     if answer.number() != 0 {
         return Mapped { answer, w: 0, h: 0 };
     }

@@ -12,8 +12,8 @@ use lib.ListN.{length, take, drop, length-take, length-replicate}
 use lib.Seq.{take-nil, take-take, take-all}
 use Rattle.grid.specs.Over.{written, length-over}
 use Rattle.float.specs.Values.{f0}
-use Rattle.params.specs.declared.Outcome.{Outcome}
-use Rattle.params.specs.declared.RadonDetectorParams.{RadonDetectorParams}
+use Rattle.params.specs.declared.answers.Outcome.{Outcome}
+use Rattle.params.specs.declared.settings.RadonDetectorParams.{RadonDetectorParams}
 use Rattle.params.specs.Answers.{numberOf, refused}
 use Rattle.frame.specs.declared.Reading.{Reading}
 use Rattle.frame.specs.declared.Reading.the-variants.{Frame, Refused}

@@ -3,7 +3,7 @@ use mathlib.Core.List.{List}
 use Prim.Native.Nat.{ℕ}
 use lib.ListN.{drop}
 use lib.Ieee.{Float}
-use Rattle.params.specs.declared.Outcome.{Outcome}
+use Rattle.params.specs.declared.answers.Outcome.{Outcome}
 use Rattle.params.specs.Answers.{refused}
 use Rattle.frame.specs.declared.Reading.{Reading}
 use Rattle.frame.specs.declared.Reading.the-variants.{Frame, Refused}

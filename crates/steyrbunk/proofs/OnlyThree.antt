@@ -2,7 +2,7 @@
 use mathlib.Core.Path.{_≡_, refl}
 use mathlib.Core.List.{List}
 use Prim.Native.Nat.{ℕ}
-use Rattle.params.specs.declared.RadonDetectorParams.{RadonDetectorParams}
+use Rattle.params.specs.declared.settings.RadonDetectorParams.{RadonDetectorParams}
 use Rattle.params.specs.Refusals.{mapRefusal, mapRefusalOf}
 use Rattle.response.specs.Map.{Buffers, mappedOf, buffersOf}
 use Rattle.steyrbunk.specs.Called.{mapSettings}

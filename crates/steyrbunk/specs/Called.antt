@@ -4,11 +4,11 @@ use mathlib.Core.List.{List}
 use Prim.Native.Nat.{ℕ}
 use lib.Dec.{ltb, eqb}
 use lib.Ieee.{Float}
-use Rattle.params.specs.declared.PeakFitMode.{PeakFitMode}
-use Rattle.params.specs.declared.PeakFitMode.the-variants.{Parabolic, Gaussian}
-use Rattle.params.specs.declared.RadonDetectorParams.{RadonDetectorParams}
-use Rattle.params.specs.declared.Answer.the-variants.{Mode}
-use Rattle.params.specs.declared.Outcome.{Outcome}
+use Rattle.params.specs.declared.settings.PeakFitMode.{PeakFitMode}
+use Rattle.params.specs.declared.settings.PeakFitMode.the-variants.{Parabolic, Gaussian}
+use Rattle.params.specs.declared.settings.RadonDetectorParams.{RadonDetectorParams}
+use Rattle.params.specs.declared.answers.Answer.the-variants.{Mode}
+use Rattle.params.specs.declared.answers.Outcome.{Outcome}
 use Rattle.params.specs.Settings.{defaults}
 use Rattle.params.specs.Answers.{numberOf, refused}
 use Rattle.response.specs.declared.Mapped.{Mapped}

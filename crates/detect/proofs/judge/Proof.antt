@@ -2,7 +2,7 @@
 use Prim.Native.Nat.{_≤_}
 use native.Mathlib.Nat.{mul-le-mul}
 use mir.Facts.{fits-le, fits-lit}
-use Rattle.params.specs.Accepted.{stage-refuses, stage-passes, stages-joined, stage-zero}
+use Rattle.params.proofs.Accepted.{stage-refuses, stage-passes, stages-joined, stage-zero}
 use Rattle.detect.specs.Detected.{peaksRefusal}
 use Rattle.detect.proofs.Allowing.{working-passes}
 use borrow.Author.Needs.{needs}
@@ -31,11 +31,11 @@ returns : tie.Need-returns
 unfolding peaksRefusal
 returns c = stage-refuses _ _ (c .before .before .judge-working .ensures) (c .before .number .ensures) (c .if1 .taken)
 
-judge-map-requires : tie.Need-judge-map-requires
-judge-map-requires c κs = search needs
+judge-map-settings-requires : tie.Need-judge-map-settings-requires
+judge-map-settings-requires c κs = search needs
 
-judge-list-requires : tie.Need-judge-list-requires
-judge-list-requires c κs = search needs
+judge-list-settings-requires : tie.Need-judge-list-settings-requires
+judge-list-settings-requires c κs = search needs
 
 mul-judge-room : tie.Need-mul-judge-room
 mul-judge-room c =
@@ -56,8 +56,8 @@ unfolding peaksRefusal
 returns-2 c =
     let s = passed c in
     stage-passes _ _ (sized s .judge-working .ensures) (s .before .number .ensures) (s .if1 .left)
-    (stages-joined (c .before .before .before .before .judge-map .ensures)
-    (stages-joined (c .before .before .before .judge-list .ensures) (c .before .before .judge-room .ensures) (c .before .or-else .ensures))
+    (stages-joined (c .before .before .before .before .judge-map-settings .ensures)
+    (stages-joined (c .before .before .before .judge-list-settings .ensures) (c .before .before .judge-room .ensures) (c .before .or-else .ensures))
     (c .or-else2 .ensures))
 
 pub judge-spec : {M : Type 1} → statement M
@@ -67,8 +67,8 @@ judge-spec =
     judge-working-requires
     number-requires
     returns
-    judge-map-requires
-    judge-list-requires
+    judge-map-settings-requires
+    judge-list-settings-requires
     mul-judge-room
     judge-room-requires
     or-else-requires

@@ -24,17 +24,17 @@ lent s = record {
 }
 
 -- from the answer back to the start
-abbrev start : tie.After-judge → tie.Start
+abbrev start : tie.After-judge-finder-call → tie.Start
 start c = c .before .before .before .before .before .before .before .before .before .before .before .before .before .before .before .before
 
-room-is : (c : tie.After-judge) → c .before .smaller6 .result ≡ roomOf (lent (start c) .map)
+room-is : (c : tie.After-judge-finder-call) → c .before .smaller6 .result ≡ roomOf (lent (start c) .map)
 room-is c = room-by (lent (start c) .map) (c .before .before .before .before .before .before .smaller .ensures) (c .before .before .before .before .before .smaller2 .ensures) (c .before .before .before .before .smaller3 .ensures) (c .before .before .before .smaller4 .ensures) (c .before .before .smaller5 .ensures) (c .before .smaller6 .ensures)
 
 returns : tie.Need-returns
 returns c =
     let j = c .before .before .before in
     let s = start j in
-    when-refused (now (s .args .img)) (s .args .w) (s .args .h) (s .args .p) (lent s) (room-is j) (j .judge .ensures) (c .before .before .number .ensures) (c .before .if1 .taken) (c .refusal .ensures)
+    when-refused (now (s .args .img)) (s .args .w) (s .args .h) (s .args .p) (lent s) (room-is j) (j .judge-finder-call .ensures) (c .before .before .number .ensures) (c .before .if1 .taken) (c .refusal .ensures)
 
 -- from the end back to the call that makes the map
 abbrev the-map : tie.After-slice-known16 → tie.After-radon-response-u8
@@ -44,7 +44,7 @@ returns-2 : tie.Need-returns-2
 returns-2 c =
     let j = the-map c .before .before .before .before .before .before .before .before .before .before in
     let s = start j in
-    when-accepted (now (s .args .img)) (s .args .w) (s .args .h) (s .args .p) (lent s) (room-is j) (j .judge .ensures) (the-map c .before .before .before .before .before .before .before .before .before .number .ensures) (the-map c .before .before .before .before .before .before .before .before .if1 .left)
+    when-accepted (now (s .args .img)) (s .args .w) (s .args .h) (s .args .p) (lent s) (room-is j) (j .judge-finder-call .ensures) (the-map c .before .before .before .before .before .before .before .before .before .number .ensures) (the-map c .before .before .before .before .before .before .before .before .if1 .left)
     (the-map c .radon-response-u8 .ensures .0)
     (the-map c .radon-response-u8 .ensures .1)
     (c .before .before .detect-peaks-from-radon .ensures .0)

@@ -5,7 +5,7 @@ use native.Mathlib.Omega.{arith}
 use borrow.Author.Tests.{lt-ltb, le-ltb}
 use lib.Dec.{eqb}
 use lib.Ieee.{Float}
-use Rattle.params.specs.declared.PeakFitMode.{PeakFitMode}
+use Rattle.params.specs.declared.settings.PeakFitMode.{PeakFitMode}
 use Rattle.steyrbunk.specs.declared.Settings.the-variants.{Given, NoSuchMode}
 use Rattle.steyrbunk.specs.Called.{modeOf, settingsOf}
 use Rattle.steyrbunk.proofs.settings_of.Statement.{statement}

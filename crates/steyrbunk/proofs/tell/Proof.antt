@@ -1,7 +1,7 @@
 -- `steyrbunk::tell` meets its contract: each number is the outcome's. Assumes nothing.
 use mathlib.Core.Path.{_≡_, ap}
 use Prim.Native.Nat.{ℕ}
-use Rattle.params.specs.declared.Outcome.{Outcome}
+use Rattle.params.specs.declared.answers.Outcome.{Outcome}
 use Rattle.params.specs.Answers.{numberOf}
 use Rattle.steyrbunk.specs.Called.{Told, told}
 use Rattle.steyrbunk.proofs.tell.Statement.{statement}

@@ -36,12 +36,12 @@ use denote.Triple.Call.{calls-at}
 use denote.Triple.Entry.{onEntry}
 use denote.Triple.Table.{cited}
 use denote.Triple.Walked.{Stays, stay-dropped, gave-slice, walkOf, ends-at, goes-dropped, goes-gave-slice}
-use Rattle.params.specs.declared.RadonDetectorParams.{RadonDetectorParams}
-use Rattle.params.proofs.RadonDetectorParams as Q
-use Rattle.params.proofs.RadonDetectorParams.Laws as Q′
-use Rattle.params.proofs.Outcome as O
-use Rattle.params.proofs.Outcome.Laws as O′
-use Rattle.params.specs.declared.Outcome.{Outcome}
+use Rattle.params.specs.declared.settings.RadonDetectorParams.{RadonDetectorParams}
+use Rattle.params.proofs.settings.RadonDetectorParams as Q
+use Rattle.params.proofs.settings.RadonDetectorParams.Laws as Q′
+use Rattle.params.proofs.answers.Outcome as O
+use Rattle.params.proofs.answers.Outcome.Laws as O′
+use Rattle.params.specs.declared.answers.Outcome.{Outcome}
 use Rattle.view.specs.declared.RadonResponseView.{RadonResponseView}
 use Rattle.view.proofs.Walk.{Called, Ensured, answers, met-with}
 use Rattle.view.proofs.Viewed.{ViewAt, Whole, mach, spelled, told, typed, handed, rejoined}

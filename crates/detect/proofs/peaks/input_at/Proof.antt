@@ -1,6 +1,6 @@
 -- `detect::peaks::input_at` meets its contract: a coordinate is a float as it is. Assumes nothing.
 use mathlib.Core.Path.{ap}
-use Rattle.params.specs.declared.Input.{Input}
+use Rattle.params.specs.declared.coordinates.Input.{Input}
 use Rattle.detect.specs.Corners.{inputAt}
 use Rattle.detect.proofs.Scanning.{coordinate}
 use borrow.Author.Needs.{needs}
