@@ -66,7 +66,8 @@ clamp-as-rust x p =
     ends : (isNan minusHalf ≡ false) × (isNan half ≡ false)
     ends = unfold isNan ofBits in (refl, refl)
 
-    go : (a b : Bool) → (T a → T b → ⊥) → cond (not b) (cond (not a) x minusHalf) half ≡ cond a minusHalf (cond b half x)
+    go : (a b : Bool) → (T a → T b → ⊥)
+        → cond (not b) (cond (not a) x minusHalf) half ≡ cond a minusHalf (cond b half x)
     go true true f = absurd (f tt tt)
     go true false f = refl
     go false true f = refl

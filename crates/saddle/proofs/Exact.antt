@@ -20,9 +20,12 @@ offsets : T (every (λ k. every (offsetAlike k) 15) 8)
 unfolding every offsetAlike alike fits offset toBits sub ofInt
 offsets = tt
 
-pub offset-is : (k i : ℕ) → k ≤ 7 → i < side k → sub binary32 (ofInt binary32 (pos i)) (ofInt binary32 (pos k)) ≡ offset k i
+pub offset-is : (k i : ℕ) → k ≤ 7 → i < side k
+    → sub binary32 (ofInt binary32 (pos i)) (ofInt binary32 (pos k)) ≡ offset k i
 unfolding offsetAlike
-offset-is k i b l = alike-same _ _ (every-at (offsetAlike k) 15 (every-at (λ k. every (offsetAlike k) 15) 8 offsets k (omega arith)) i (omega arith))
+offset-is k i b l =
+    let row = every-at (λ k. every (offsetAlike k) 15) 8 offsets k (omega arith) in
+    alike-same _ _ (every-at (offsetAlike k) 15 row i (omega arith))
 
 counted : ℕ → Bool
 counted k = alike (momentsOf k .n) (ofInt binary32 (pos (length (disk k))))

@@ -2,11 +2,10 @@
 -- the plain values, for the callers. Assumes nothing.
 use mathlib.Core.Path.{_≡_, refl, _∙_}
 use mathlib.Core.Bool.{Bool, true, false, _&&_, cond}
-use Prim.Native.Nat.{ℕ, _+_, _-_, _*_, _≤_, _<_}
+use Prim.Native.Nat.{ℕ, _+_, _-_, _≤_, _<_}
 use native.Mathlib.Omega.{arith}
 use borrow.Author.Tests.{ltb-true, ltb-false, lt-ltb, le-ltb, leb-true, le-leb}
 use lib.Dec.{ltb, leb}
-use Rattle.grid.specs.Ways.{Inside}
 use Rattle.sizes.specs.Fits.{fitsIn}
 use Rattle.sizes.proofs.Fitting.{both-true, true-both, fitting, fits-so}
 use Rattle.saddle.specs.declared.SaddleTest.{SaddleTest}
@@ -65,7 +64,8 @@ module _ {k n w h x y : ℕ} (r : Around k n w h x y) where
   disk-fits-so =
       true-both (le-leb k 7 (r .small))
       (true-both (fits-so (record { wide = r .wide; high = r .high; inside = r .room }))
-      (true-both (of-clear k x w (r .inside .left) (r .inside .right)) (of-clear k y h (r .inside .above) (r .inside .below))))
+      (true-both (of-clear k x w (r .inside .left) (r .inside .right))
+      (of-clear k y h (r .inside .above) (r .inside .below))))
 
   pub accepts-plain : (t : SaddleTest) (g : ℕ → ℕ → ℕ) {d : Saddle}
       → d ≡ cond (diskFits k n w h x y) (saddleAt t k g x y) Flat → d ≡ saddleAt t k g x y

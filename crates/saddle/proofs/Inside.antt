@@ -12,7 +12,8 @@ use Rattle.grid.specs.All.{all, all-map, all-keep, all-rect, InRect, foldl-same
 use Rattle.grid.specs.Ways.{Inside}
 use Rattle.saddle.specs.declared.SaddleTest.{SaddleTest}
 use Rattle.saddle.specs.declared.Sums.{Sums}
-use Rattle.saddle.specs.Saddle.{side, disk, inDisk, offset, overDisk, added, around, noSums, sumsOf, saddleAt, judge}
+use Rattle.saddle.specs.Saddle.{side, disk, inDisk, offset, overDisk, added, around, noSums, sumsOf}
+use Rattle.saddle.specs.Saddle.{saddleAt, judge}
 
 module _ (t : SaddleTest) (k : ℕ) (f g : ℕ → ℕ → ℕ) (w h x y : ℕ) (m : Inside w h k x y)
     (e : (x y : ℕ) → x < w → y < h → f x y ≡ g x y) where

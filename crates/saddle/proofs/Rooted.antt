@@ -1,5 +1,5 @@
--- The saddle test never asks for a root that there is not: on an image of pixels up to 4,095, with what a radius from 1 to 7 fixes, 16 q q + 4 b b is finite and
--- not negative. So the verdict is always by a root. Assumes nothing.
+-- The saddle test never asks for a root that there is not: on an image of pixels up to 4,095, with what a radius from 1
+-- to 7 fixes, 16 q q + 4 b b is finite and not negative. So the verdict is always by a root. Assumes nothing.
 use mathlib.Core.Path.{_≡_, refl}
 use mathlib.Core.Bool.{Bool, true, false, not, cond, _&&_}
 use mathlib.Core.List.{List, [], _∷_, foldl}
@@ -10,14 +10,16 @@ use lib.IntN.{pos, negsuc}
 use lib.Ieee.{Float, nan, inf, fin, up, down, binary32, toBits, ofBits, ofInt, add, sub, mul, div}
 use lib.Ieee.Fits.{and-l, and-r}
 use Rattle.float.specs.Computed.{every, every-at}
-use Rattle.float.specs.Sized.{Sized, sized, Small, small, Held, held, small-mono, round-sized, mul-small, add-small, sub-small, add-plus, square-plus}
+use Rattle.float.specs.Sized.{Sized, sized, Small, small, Held, held, small-mono, round-sized}
+use Rattle.float.specs.Sized.{mul-small, add-small, sub-small, add-plus, square-plus}
 use Rattle.grid.specs.Each.{each, keep}
 use Rattle.grid.specs.Rect.{Place, from, range, line, rect}
 use Rattle.scalar.specs.Root.{rootOf, rootBits}
 use Rattle.scalar.specs.declared.Root.the-variants.{Value}
 use Rattle.saddle.specs.declared.SaddleTest.{SaddleTest}
 use Rattle.saddle.specs.declared.Sums.{Sums}
-use Rattle.saddle.specs.Saddle.{f4, f16, offset, disk, overDisk, noSums, added, around, sumsOf, saddleOf, squares, byCurvatures, judge, saddleAt}
+use Rattle.saddle.specs.Saddle.{f4, f16, offset, disk, overDisk, noSums, added, around, sumsOf, saddleOf}
+use Rattle.saddle.specs.Saddle.{squares, byCurvatures, judge, saddleAt}
 
 -- 2 ^ j is a value of the format
 pub power : (j : ℕ) → j ≤ 100 → Held (1 * 2 ^ j)
@@ -85,11 +87,16 @@ module _ (m : ℕ) (few-places : m < 256) where
   product : {x y : Float} → Small 16 x → Small 16 y → Small 256 (mul binary32 x y)
   product h k = mul-small 256 (power 8 (lit≤ tt)) (lit≤ tt) h k
 
-  place-added : (t : SaddleTest) (dx dy i : Float) (s : Sums) → Small 16 dx → Small 16 dy → Small 4096 i → After m s → After (m + 1) (added t dx dy i s)
+  -- with a pixel
+  times : {x y : Float} → Small 512 x → Small 4096 y → Small (2 ^ 22) (mul binary32 x y)
+  times h k = mul-small (2 ^ 22) (power 22 (lit≤ tt)) (lit≤ tt) h k
+
+  place-added : (t : SaddleTest) (dx dy i : Float) (s : Sums) → Small 16 dx → Small 16 dy → Small 4096 i → After m s
+      → After (m + 1) (added t dx dy i s)
   unfolding added
   place-added t dx dy i s X Y I A = record {
-    v = more (A .v) (mul-small (2 ^ 22) (power 22 (lit≤ tt)) (lit≤ tt) (sub-small 512 (power 9 (lit≤ tt)) (lit≤ tt) (product X X) (product Y Y)) I);
-    xy = more (A .xy) (mul-small (2 ^ 22) (power 22 (lit≤ tt)) (lit≤ tt) (product X Y) I);
+    v = more (A .v) (times (sub-small 512 (power 9 (lit≤ tt)) (lit≤ tt) (product X X) (product Y Y)) I);
+    xy = more (A .xy) (times (small-mono (lit≤ tt) (product X Y)) I);
   }
 
 -- ---- the places of a list
@@ -98,7 +105,8 @@ module _ (t : SaddleTest) (k : ℕ) (f : ℕ → ℕ → ℕ) (x y : ℕ) (radiu
   abbrev next : Sums → Place → Sums
   next s p = added t (offset k (p .x)) (offset k (p .y)) (around k f x y p) s
 
-  places-added : (n m : ℕ) (ps : List Place) (s : Sums) → n + m ≤ 256 → T (few n ps) → After m s → After 256 (foldl next s ps)
+  places-added : (n m : ℕ) (ps : List Place) (s : Sums) → n + m ≤ 256 → T (few n ps) → After m s
+      → After 256 (foldl next s ps)
   unfolding few
   places-added n m [] s b h A = record { v = small-mono (omega arith) (A .v); xy = small-mono (omega arith) (A .xy) }
   places-added zero m (p ∷ ps) s b h A = absurd h
@@ -107,7 +115,8 @@ module _ (t : SaddleTest) (k : ℕ) (f : ℕ → ℕ → ℕ) (x y : ℕ) (radiu
       let X : p .x ≤ 14 = leb→le _ _ (and-l (leb (p .x) 14) _ here) in
       let Y : p .y ≤ 14 = leb→le _ _ (and-r (leb (p .x) 14) (leb (p .y) 14) here) in
       places-added n (m + 1) ps (next s p) (omega arith) (and-r (leb (p .x) 14 && leb (p .y) 14) (few n ps) h)
-      (place-added m (omega arith) t _ _ _ s (offset-small k (p .x) radius X) (offset-small k (p .y) radius Y) (pixel-small _ (deep _ _)) A)
+      (place-added m (omega arith) t _ _ _ s (offset-small k (p .x) radius X) (offset-small k (p .y) radius Y)
+      (pixel-small _ (deep _ _)) A)
 
 -- ---- the root
 
@@ -142,24 +151,31 @@ abbrev pub trace : SaddleTest → Sums → Float
 trace t s = mul binary32 f4 (mul binary32 (s .u) (t .«inv_u»))
 
 module _ (k : ℕ) (f : ℕ → ℕ → ℕ) (x y : ℕ) (least : 1 ≤ k) (most : k ≤ 7) (deep : (i j : ℕ) → f i j ≤ 4095) where
-  sums-small : After 256 (sumsOf (saddleOf k) k f x y)
+  abbrev sums : Sums
+  sums = sumsOf (saddleOf k) k f x y
+
+  sums-small : After 256 sums
   unfolding sumsOf overDisk
-  sums-small = places-added (saddleOf k) k f x y most deep 149 0 (disk k) noSums (lit≤ tt) (of-radius k least most .0) start
+  sums-small =
+      places-added (saddleOf k) k f x y most deep 149 0 (disk k) noSums (lit≤ tt) (of-radius k least most .0) start
     where
       start : After 0 noSums
       start = unfold ofBits in record { v = small (sized (lit≤ tt)); xy = small (sized (lit≤ tt)) }
 
-  pub never-outside : rootOf (spreadSquared (saddleOf k) (sumsOf (saddleOf k) k f x y)) ≡ Value (nearestRoot (spreadSquared (saddleOf k) (sumsOf (saddleOf k) k f x y)))
+  pub never-outside : rootOf (spreadSquared (saddleOf k) sums) ≡ Value (nearestRoot (spreadSquared (saddleOf k) sums))
   unfolding tame
   never-outside =
       let t = saddleOf k in
       let g = of-radius k least most .1 in
+      let v = bounded-small 1 (t .«inv_v») (and-l (bounded 1 (t .«inv_v»)) _ g) in
+      let xy = bounded-small 1 (t .«inv_xy») (and-r (bounded 1 (t .«inv_v»)) _ g) in
       has-root
       (squares-plus _ _
-      (mul-small (2 ^ 30) (power 30 (lit≤ tt)) (lit≤ tt) (sums-small .v) (bounded-small 1 (t .«inv_v») (and-l (bounded 1 (t .«inv_v»)) _ g)))
-      (mul-small (2 ^ 30) (power 30 (lit≤ tt)) (lit≤ tt) (sums-small .xy) (bounded-small 1 (t .«inv_xy») (and-r (bounded 1 (t .«inv_v»)) _ g))))
+      (mul-small (2 ^ 30) (power 30 (lit≤ tt)) (lit≤ tt) (sums-small .v) v)
+      (mul-small (2 ^ 30) (power 30 (lit≤ tt)) (lit≤ tt) (sums-small .xy) xy))
 
   -- so the verdict is by that root
-  pub by-root : saddleAt (saddleOf k) k f x y ≡ byCurvatures k (trace (saddleOf k) (sumsOf (saddleOf k) k f x y)) (nearestRoot (spreadSquared (saddleOf k) (sumsOf (saddleOf k) k f x y)))
+  pub by-root : saddleAt (saddleOf k) k f x y
+      ≡ byCurvatures k (trace (saddleOf k) sums) (nearestRoot (spreadSquared (saddleOf k) sums))
   unfolding saddleAt judge
   by-root = rw never-outside

@@ -1,5 +1,5 @@
--- A product with |x| is compared as one with `signless x` is, though the two factors differ at -0; and so the verdict follows from the code's two tests.
--- Assumes nothing.
+-- A product with |x| is compared as one with `signless x` is, though the two factors differ at -0; and so the verdict
+-- follows from the code's two tests. Assumes nothing.
 use mathlib.Core.Path.{_≡_, refl, sym, _∙_}
 use mathlib.Core.Bool.{Bool, true, false, cond, _&&_, _||_, true≢false}
 use Prim.Native.Nat.{ℕ, _+_, _*_}
@@ -33,7 +33,8 @@ zero-le (fin true n e) = to-minus (0 * down e) (n * up e * 1) (zero-mul (down e)
 zero-le (fin false n e) = to-plus (0 * down e) (n * up e * 1) (zero-mul (down e))
 
 -- 0 times a number that is not negative
-zero-mul-fin : (s : Bool) (e : ℤ) (n : ℕ) (d : ℤ) → mul binary32 (fin s 0 e) (fin false n d) ≡ fin (unlike s false) 0 (pos 0)
+zero-mul-fin : (s : Bool) (e : ℤ) (n : ℕ) (d : ℤ)
+    → mul binary32 (fin s 0 e) (fin false n d) ≡ fin (unlike s false) 0 (pos 0)
 unfolding mul
 zero-mul-fin s e n d =
     let z : 0 * up e * (n * up d) ≡ 0 = rw (zero-mul, zero-mul) in
@@ -54,14 +55,16 @@ module _ (n : ℕ) (d : ℤ) (y : Float) where
   signless-le (fin false m e) = rw (le-ltb (m * up e * 1) (0 * down e) (omega (arith, zero-mul (down e))))
   signless-le (fin true m e) = go (ltb 0 (m * up e * 1 + 0 * down e)) refl
     where
-      go : (b : Bool) → ltb 0 (m * up e * 1 + 0 * down e) ≡ b → atMost (cond b (fin false m e) (fin true m e)) ≡ atMost (fin false m e)
+      go : (b : Bool) → ltb 0 (m * up e * 1 + 0 * down e) ≡ b
+          → atMost (cond b (fin false m e) (fin true m e)) ≡ atMost (fin false m e)
       go true q = refl
       go false q =
           let z : m ≡ 0 = no-factor m (up e) (up-pos e) (omega (arith, ltb-false 0 (m * up e * 1 + 0 * down e) q)) in
           rw z (minus-zero e)
 
 -- what the test of the curvature finds
-pub curvature : (tr y : Float) {s : Float} {b : Bool} → s ≡ signless tr → le (mul binary32 s (add binary32 f1 ratio)) y ≡ b → le (mul binary32 (magnitude tr) (add binary32 f1 ratio)) y ≡ b
+pub curvature : (tr y : Float) {s : Float} {b : Bool} → s ≡ signless tr
+    → le (mul binary32 s (add binary32 f1 ratio)) y ≡ b → le (mul binary32 (magnitude tr) (add binary32 f1 ratio)) y ≡ b
 unfolding add ofBits
 curvature tr y e h = sym (signless-le _ _ y tr) ∙ (rw e at h)
 

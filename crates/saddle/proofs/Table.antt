@@ -10,8 +10,8 @@ use lib.ListN.{getD}
 use lib.Ieee.Fits.{and-l, and-r}
 use Rattle.float.specs.Computed.{every, every-at}
 use Rattle.grid.specs.Rect.{place}
-use Rattle.saddle.specs.Saddle.{side, apart, inDisk}
-use Rattle.saddle.specs.Steps.{Spans, Packs, digit}
+use Rattle.saddle.specs.Saddle.{side, inDisk}
+use Rattle.saddle.specs.Steps.{Packs, digit}
 
 same : (a b : Bool) → T (Bool·beq a b) → a ≡ b
 same true true t = refl
@@ -32,7 +32,9 @@ right t = every (λ k. every (rightRow k (getD t k 0)) (side k)) 8
 module _ (t : List ℕ) (h : T (right t)) (k : ℕ) (few : k ≤ 7) where
   row : (y : ℕ) → y < side k → T (rightRow k (getD t k 0) y)
   unfolding right
-  row y b = every-at (rightRow k _) (side k) (every-at (λ k. every (rightRow k (getD t k 0)) (side k)) 8 h k (omega arith)) y b
+  row y b =
+      let rows = every-at (λ k. every (rightRow k (getD t k 0)) (side k)) 8 h k (omega arith) in
+      every-at (rightRow k (getD t k 0)) (side k) rows y b
 
   pub packs : Packs k (getD t k 0)
   unfolding rightRow rightAt

@@ -1,6 +1,6 @@
--- A walk over the disk a row at a time: `for iy in 0..side { for ix in first..end { .. } }`, where first and end are the
--- disk's part of the row, takes the disk's places in their order and no others. `Above` and `Within` are the invariants
--- of the two loops, for any state and any step. Assumes nothing.
+-- A walk over the disk a row at a time: `for iy in 0..side { for ix in first..end { .. } }`, where first and end are
+-- the disk's part of the row, takes the disk's places in their order and no others. `Above` and `Within` are the
+-- invariants of the two loops, for any state and any step. Assumes nothing.
 use mathlib.Core.Path.{_≡_, refl, sym, ap, _∙_}
 use mathlib.Core.Bool.{Bool, true, false}
 use mathlib.Core.List.{List, [], _∷_, _++_, append-assoc, append-nil, foldl, foldl-append}
@@ -11,7 +11,8 @@ use lib.ListN.{getD}
 use lib.Ieee.{Float}
 use Rattle.grid.specs.Each.{each, each-append, keep, keep-none, keep-yes}
 use Rattle.grid.specs.Plane.{row-in}
-use Rattle.grid.specs.Rect.{Place, place, from, range, range-split, line, rect, rect-none, before, before-first, before-more, before-last}
+use Rattle.grid.specs.Rect.{Place, place, from, range, range-split, line, rect, rect-none}
+use Rattle.grid.specs.Rect.{before, before-first, before-more, before-last}
 use Rattle.grid.specs.Ways.{pixel}
 use Rattle.saddle.specs.Saddle.{side, inDisk, disk, offset, overDisk}
 use Rattle.saddle.specs.Steps.{Spans, Around}
@@ -23,17 +24,21 @@ unfolding keep
 keep-append p l m = each-append _ l m
 
 module _ (p : Place → Bool) (y : ℕ) where
-  none-from : (a n : ℕ) → ((x : ℕ) → a ≤ x → x < a + n → p (place x y) ≡ false) → keep p (each (λ x. place x y ∷ []) (from a n)) ≡ []
+  none-from : (a n : ℕ) → ((x : ℕ) → a ≤ x → x < a + n → p (place x y) ≡ false)
+      → keep p (each (λ x. place x y ∷ []) (from a n)) ≡ []
   unfolding keep each from
   none-from a zero h = refl
-  none-from a (suc n) h = rw (h a (omega arith) (omega arith)) (none-from (suc a) n (λ x l m. h x (omega arith) (omega arith)))
+  none-from a (suc n) h =
+      rw (h a (omega arith) (omega arith)) (none-from (suc a) n (λ x l m. h x (omega arith) (omega arith)))
 
   -- from column a to column b nothing is passed
-  pub skip : (n a b : ℕ) → a ≤ b → ((x : ℕ) → a ≤ x → x < b → p (place x y) ≡ false) → keep p (before 0 n 0 b y) ≡ keep p (before 0 n 0 a y)
+  pub skip : (n a b : ℕ) → a ≤ b → ((x : ℕ) → a ≤ x → x < b → p (place x y) ≡ false)
+      → keep p (before 0 n 0 b y) ≡ keep p (before 0 n 0 a y)
   unfolding before line
   skip n a b l h =
       let columns : range 0 b ≡ range 0 a ++ range a b = range-split 0 a b (omega arith) l in
-      rw (columns, each-append, ← append-assoc, keep-append p (rect 0 n 0 y ++ each (λ x. place x y ∷ []) (range 0 a)), nothing) (append-nil _)
+      let front = rect 0 n 0 y ++ each (λ x. place x y ∷ []) (range 0 a) in
+      rw (columns, each-append, ← append-assoc, keep-append p front, nothing) (append-nil _)
     where
       nothing : keep p (each (λ x. place x y ∷ []) (range a b)) ≡ []
       nothing = unfold range in none-from a (b - a) (λ x u v. h x u (omega arith))
@@ -126,7 +131,8 @@ module _ {k n w h x y : ℕ} (r : Around k n w h x y) where
       let high : y - k + i < h = omega arith in
       omega (arith, row-in w high)
 
-  pub pixel-at : (img : List ℕ) (i j : ℕ) → getD img ((y - k + i) * w + (x - k) + j) 0 ≡ pixel img w (x + j - k) (y + i - k)
+  pub pixel-at : (img : List ℕ) (i j : ℕ)
+      → getD img ((y - k + i) * w + (x - k) + j) 0 ≡ pixel img w (x + j - k) (y + i - k)
   pixel-at img i j =
       let e : y - k + i ≡ y + i - k = omega arith in
       ap (λ (a : ℕ). getD img a 0) (omega (arith, ap (λ (a : ℕ). a * w) e))

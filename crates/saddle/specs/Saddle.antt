@@ -31,7 +31,8 @@ ratio = ofBits binary32 0x3e4c_cccd
 
 -- ---- Document 01: "offsets with dx²+dy² at most max(k², 2), rows of dy upward, dx upward within"
 
--- An offset is a place of the square of side 2 k + 1, counted from that square's first corner: column dx + k, row dy + k.
+-- An offset is a place of the square of side 2 k + 1, counted from that square's first corner: column dx + k, row
+-- dy + k.
 abbrev pub side : ℕ → ℕ
 side k = 2 * k + 1
 
@@ -67,7 +68,10 @@ squareTerm dx dy = sub binary32 (mul binary32 dx dx) (mul binary32 dy dy)
 -- the sum of x² + y²; and, in the code alone, a count of the offsets in floats
 unfoldable pub momentAdded : Float → Float → Moments → Moments
 momentAdded dx dy s =
-    record { n = add binary32 (s .n) f1; r2 = add binary32 (s .r2) (add binary32 (mul binary32 dx dx) (mul binary32 dy dy)) }
+    record {
+      n = add binary32 (s .n) f1;
+      r2 = add binary32 (s .r2) (add binary32 (mul binary32 dx dx) (mul binary32 dy dy));
+    }
 
 abbrev pub noMoments : Moments
 noMoments = record { n = f0; r2 = f0 }

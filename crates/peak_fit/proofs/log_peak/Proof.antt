@@ -19,7 +19,9 @@ peak-of-three-requires c κs = search needs
 
 returns : tie.Need-returns
 unfolding peakOfLogs
-returns c = c .peak-of-three .ensures ∙ rw (c .before .before .before .ln .ensures .0, c .before .before .ln2 .ensures .0, c .before .ln3 .ensures .0)
+returns c =
+    c .peak-of-three .ensures
+    ∙ rw (c .before .before .before .ln .ensures .0, c .before .before .ln2 .ensures .0, c .before .ln3 .ensures .0)
 
 pub log-peak-spec : {M : Type 1} → statement M
 log-peak-spec =

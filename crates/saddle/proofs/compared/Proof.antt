@@ -22,19 +22,22 @@ int-to-float-kk c = search needs
 size-requires : tie.Need-size-requires
 size-requires c κs = search needs
 
+abbrev entry : tie.After-size → tie.Start
+entry c = c .before .before
+
 returns : tie.Need-returns
 returns c =
-    let o = c .before .before .before .args in
+    let o = entry (c .before) .args in
     told-yes (o .k) (o .tr) (o .spread) (c .before .size .ensures) (c .if1 .taken)
 
 returns-2 : tie.Need-returns-2
 returns-2 c =
-    let o = c .before .before .before .before .args in
+    let o = entry (c .before .before) .args in
     told-curved (o .k) (o .tr) (o .spread) (c .before .before .size .ensures) (c .before .if1 .left) (c .if2 .taken)
 
 returns-3 : tie.Need-returns-3
 returns-3 c =
-    let o = c .before .before .before .before .args in
+    let o = entry (c .before .before) .args in
     told-flat (o .k) (o .tr) (o .spread) (c .before .before .size .ensures) (c .if2 .left)
 
 pub compared-spec : {M : Type 1} → statement M

@@ -40,7 +40,9 @@ offset-of-requires : tie.Need-offset-of-requires Inv-loop2 μ-loop2 Inv-loop μ-
 offset-of-requires c κs = omega arith
 
 loop2-holds : tie.Need-loop2-holds Inv-loop2 μ-loop2 Inv-loop μ-loop
-loop2-holds c = within-none _ _ _ (c .before .before .before .loop .inv) (c .before .before .loop-test .taken) (c .before .span-of .ensures)
+loop2-holds c =
+    let row = c .before .before in
+    within-none _ _ _ (row .before .loop .inv) (row .loop-test .taken) (c .before .span-of .ensures)
 
 offset-of-requires-2 : tie.Need-offset-of-requires-2 Inv-loop2 μ-loop2 Inv-loop μ-loop
 offset-of-requires-2 c κs = omega arith
@@ -51,15 +53,17 @@ add-ix c = omega arith
 loop2-less : tie.Need-loop2-less Inv-loop2 μ-loop2 Inv-loop μ-loop
 loop2-less c = omega arith
 
--- where the column was entered
-abbrev turn : tie.After-struct-known3 Inv-loop2 μ-loop2 Inv-loop μ-loop → tie.In-loop2 Inv-loop2 μ-loop2 Inv-loop μ-loop
-turn c = c .before .before .before .before
+-- where the column was entered, and its offset known
+abbrev at-column : tie.After-struct-known3 Inv-loop2 μ-loop2 Inv-loop μ-loop
+    → tie.After-offset-of2 Inv-loop2 μ-loop2 Inv-loop μ-loop
+at-column c = c .before .before .before
 
 loop2-again : tie.Need-loop2-again Inv-loop2 μ-loop2 Inv-loop μ-loop
 unfolding normAdded
 loop2-again c =
-    within-more _ _ _ (turn c .before .loop2 .inv) (turn c .loop2-test .taken) (c .before .before .before .offset-of2 .ensures)
-    (turn c .before .before .offset-of .ensures) refl
+    let turn = at-column c .before in
+    within-more _ _ _ (turn .before .loop2 .inv) (turn .loop2-test .taken) (at-column c .offset-of2 .ensures)
+    (turn .before .before .offset-of .ensures) refl
 
 add-iy : tie.Need-add-iy Inv-loop2 μ-loop2 Inv-loop μ-loop
 add-iy c = omega arith

@@ -1,5 +1,5 @@
 -- `saddle::project` meets its contract: the row of the square lies in the buffer, and each read is the pixel meant.
-use mathlib.Core.Path.{refl}
+-- Assumes nothing.
 use Prim.Native.Nat.{_+_, _-_, _*_, _≤_}
 use native.Mathlib.Omega.{arith}
 use borrow.Author.Needs.{needs}
@@ -10,8 +10,6 @@ use Rattle.saddle.proofs.Walk.{Above, Within, above-none, within-none, 
 use Rattle.saddle.proofs.Walk.{row-room, pixel-at}
 use Rattle.saddle.proofs.project.Statement.{statement}
 use Rattle.saddle.proofs.project.Tie as tie
-
--- Assumes nothing.
 
 abbrev Inv-loop2 : tie.InvT-loop2
 Inv-loop2 t k image w h x y reaches rows s₀ iy start dy first end ix₀ s ix =
@@ -96,12 +94,10 @@ add-ix c = omega arith
 loop2-less : tie.Need-loop2-less Inv-loop2 μ-loop2 Inv-loop μ-loop
 loop2-less c = omega arith
 
--- where the column, and where its row was entered
-abbrev at-column : tie.After-struct-known4 Inv-loop2 μ-loop2 Inv-loop μ-loop → tie.After-offset-of2 Inv-loop2 μ-loop2 Inv-loop μ-loop
+-- where the column was entered, and its offset known; and where its row was entered
+abbrev at-column : tie.After-struct-known4 Inv-loop2 μ-loop2 Inv-loop μ-loop
+    → tie.After-offset-of2 Inv-loop2 μ-loop2 Inv-loop μ-loop
 at-column c = c .before .before .before .before .before .before
-
-abbrev turn : tie.After-struct-known4 Inv-loop2 μ-loop2 Inv-loop μ-loop → tie.In-loop2 Inv-loop2 μ-loop2 Inv-loop μ-loop
-turn c = at-column c .before
 
 abbrev entered : tie.In-loop2 Inv-loop2 μ-loop2 Inv-loop μ-loop → tie.In-loop Inv-loop2 μ-loop2 Inv-loop μ-loop
 entered c = c .before .before .before .before
@@ -109,11 +105,14 @@ entered c = c .before .before .before .before
 loop2-again : tie.Need-loop2-again Inv-loop2 μ-loop2 Inv-loop μ-loop
 unfolding added
 loop2-again c =
-    let i = turn c in
-    let o = entry (entered i) in
-    let pixel-is = pixel-at (o .pre) (o .args .image .now) (entered i .before .loop .iy) (i .before .loop2 .ix) in
-    (within-more _ _ _ (i .before .loop2 .inv .0) (i .loop2-test .taken) (at-column c .offset-of2 .ensures)
-    (i .before .before .offset-of .ensures) (rw pixel-is), i .before .loop2 .inv .1)
+    let turn = at-column c .before in
+    let walk = turn .before .loop2 in
+    let row = entered turn in
+    let read = pixel-at (entry row .pre) (entry row .args .image .now) (row .before .loop .iy) (walk .ix) in (
+      within-more _ _ _ (walk .inv .0) (turn .loop2-test .taken) (at-column c .offset-of2 .ensures)
+          (turn .before .before .offset-of .ensures) (rw read),
+      walk .inv .1,
+    )
 
 add-iy : tie.Need-add-iy Inv-loop2 μ-loop2 Inv-loop μ-loop
 add-iy c = omega arith
