@@ -18,7 +18,7 @@ use Rattle.float.specs.Sized.{Sized, sized, Small, small, held, small-of-le, mu
 use Rattle.float.specs.Product.{round-zero}
 use Rattle.grid.specs.Fold.{fold, fold-more, fold-ext}
 use Rattle.grid.specs.Plane.{plane}
-use Rattle.detect.specs.PeakFit.{greatest, usable}
+use Rattle.peak_fit.specs.PeakFit.{greatest, usable}
 use Rattle.detect.specs.Window.{value}
 use Rattle.detect.specs.Corners.{greater, peak}
 use Rattle.as_rust.specs.Machine.{Machine, _⊗_, lit-0, lit-1, neg-infinity, max-f32, is-finite}

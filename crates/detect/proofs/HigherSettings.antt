@@ -19,9 +19,9 @@ use Rattle.grid.specs.Ways.{pixel}
 use Rattle.params.specs.declared.settings.RadonDetectorParams.{RadonDetectorParams}
 use Rattle.params.specs.Answers.{numberOf}
 use Rattle.params.specs.Refusals.{listRefusal, mapRefusal}
-use Rattle.params.proofs.Accepted.{ListPasses, both-pass, list-passes}
-use Rattle.detect.specs.declared.saddle.Saddle.{Saddle}
-use Rattle.detect.specs.declared.saddle.Saddle.the-variants.{Yes, Flat, Curved}
+use Rattle.params.specs.Accepted.{ListPasses, both-pass, list-passes}
+use Rattle.saddle.specs.declared.Saddle.{Saddle}
+use Rattle.saddle.specs.declared.Saddle.the-variants.{Yes, Flat, Curved}
 use Rattle.detect.specs.Window.{at, value, beaten, positives}
 use Rattle.detect.specs.Corners.{borderOf, candidates, peak, floorOf, firstFailing, isSaddle, isKept, verdict, corners, numbers, stride}
 use Rattle.detect.specs.Detected.{workingRefusal, peaksRefusal, refusalFor, foundIn, listOf}

@@ -2,54 +2,27 @@
 -- Assumes nothing.
 use mathlib.Core.Path.{_≡_, refl, sym, ap, _∙_}
 use mathlib.Core.Bool.{Bool, not, _&&_}
-use mathlib.Core.List.{List, [], _∷_}
+use mathlib.Core.List.{List}
 use Prim.Native.Nat.{ℕ, _+_, _-_, _*_, _/_, _≤_, _<_}
 use native.Mathlib.Omega.{arith}
 use lib.ListN.{length, take}
 use lib.Dec.{leb}
-use lib.IntN.{pos}
-use lib.Ieee.{Float, binary32, lt, mul, ofInt}
+use lib.Ieee.{Float, binary32, lt, mul}
 use Rattle.float.specs.Values.{f0}
 use Rattle.grid.specs.Fold.{fold-ext}
 use Rattle.grid.specs.Plane.{plane, column-in, row-number-in}
 use Rattle.grid.specs.Each.{each, keep, any, count}
-use Rattle.grid.specs.Rect.{Place, place, rect}
+use Rattle.grid.specs.Rect.{Place, place}
 use Rattle.grid.specs.Over.{over, written}
-use Rattle.grid.specs.All.{all, all-map, all-keep, all-take, all-rect, Between, InRect, each-same, keep-same, any-same, foldl-same}
-use Rattle.params.specs.declared.settings.RadonDetectorParams.{RadonDetectorParams}
+use Rattle.grid.specs.Ways.{Inside as Clear}
+use Rattle.grid.specs.All.{all, all-map, all-keep, all-take, all-rect, Between, InRect, each-same, keep-same, any-same}
+use Rattle.params.specs.declared.RadonDetectorParams.{RadonDetectorParams}
 use Rattle.params.specs.Settings.{rayOf}
-use Rattle.detect.specs.declared.saddle.SaddleTest.{SaddleTest}
-use Rattle.detect.specs.declared.saddle.Sums.{Sums}
 use Rattle.detect.specs.declared.verdict.Verdict.{Verdict}
-use Rattle.detect.specs.Saddle.{side, disk, inDisk, offset, overDisk, added, around, noSums, sumsOf, saddleAt, saddleOf, judge}
+use Rattle.saddle.specs.Saddle.{saddleOf}
+use Rattle.saddle.proofs.Inside.{saddle-same}
 use Rattle.detect.specs.Window.{at, window, same, beaten, positives}
 use Rattle.detect.specs.Corners.{borderOf, candidates, greater, peak, floorOf, firstFailing, isSaddle, isKept, verdict, corners, offsetX, offsetY, inputAt, numbers, stride}
-
--- k around x and y lies inside
-pub record Clear (w h k x y : ℕ) : Type 0 where
-  pub left : k ≤ x
-  pub right : x + k < w
-  pub above : k ≤ y
-  pub below : y + k < h
-
--- ---- the saddle test
-
-saddle-same : (t : SaddleTest) (k : ℕ) (f g : ℕ → ℕ → ℕ) (w h x y : ℕ) → Clear w h k x y → ((x y : ℕ) → x < w → y < h → f x y ≡ g x y) → saddleAt t k f x y ≡ saddleAt t k g x y
-unfolding saddleAt sumsOf overDisk disk
-saddle-same t k f g w h x y m e =
-    ap (judge t k) (foldl-same (step f) (step g) noSums (keep (inDisk k) square) (all-keep Same (inDisk k) square (all-map (InRect 0 (side k) 0 (side k)) Same at-place square (all-rect 0 (side k) 0 (side k)))))
-  where
-    square : List Place
-    square = rect 0 (side k) 0 (side k)
-
-    step : (ℕ → ℕ → ℕ) → Sums → Place → Sums
-    step f s p = added t (offset k (p .x)) (offset k (p .y)) (around k f x y p) s
-
-    Same : Place → Type 0
-    Same p = (s : Sums) → step f s p ≡ step g s p
-
-    at-place : (p : Place) → InRect 0 (side k) 0 (side k) p → Same p
-    at-place p b s = ap (λ (n : ℕ). added t (offset k (p .x)) (offset k (p .y)) (ofInt binary32 (pos n)) s) (e (x + p .x - k) (y + p .y - k) (omega arith) (omega arith))
 
 -- ---- the window
 

@@ -16,7 +16,7 @@ use Rattle.grid.specs.Each.{count}
 use Rattle.grid.specs.Rect.{Place, place, any-rect-none}
 use Rattle.params.specs.declared.settings.RadonDetectorParams.{RadonDetectorParams}
 use Rattle.params.specs.Answers.{numberOf}
-use Rattle.detect.specs.declared.saddle.Saddle.the-variants.{Yes}
+use Rattle.saddle.specs.declared.Saddle.the-variants.{Yes}
 use Rattle.detect.specs.declared.verdict.Verdict.the-variants.{NotAbove, Kept}
 use Rattle.detect.specs.Window.{at, value, beaten, positives}
 use Rattle.detect.specs.Corners.{borderOf, candidates, greater, peak, floorOf, isSaddle, isKept, verdict, corners}

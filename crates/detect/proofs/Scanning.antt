@@ -1,7 +1,7 @@
 -- A candidate's verdict, a turn of the scan, a row and all rows: the steps behind `verdict` and `peaks`. Assumes nothing.
 use mathlib.Core.Path.{_≡_, refl, sym, ap, _∙_}
 use mathlib.Core.Logic.{_⊎_, inl, inr}
-use mathlib.Core.Bool.{Bool, true, false, not, _&&_, true≢false}
+use mathlib.Core.Bool.{Bool, true, false, not, _&&_, cond, true≢false}
 use Prim.Native.Nat.{ℕ, _+_, _-_, _*_, _/_, _≤_, _<_, _^_}
 use native.Mathlib.Omega.{arith}
 use mathlib.Core.List.{List, [], _∷_}
@@ -19,13 +19,15 @@ use Rattle.grid.specs.Rect.{Place, place, rect, any-in, Across, across-none, ac
 use Rattle.grid.specs.Over.{written, Listed, listed-none, Onward, onward-none, onward-no, onward-full, onward-put}
 use Rattle.params.specs.declared.settings.RadonDetectorParams.{RadonDetectorParams}
 use Rattle.params.specs.Settings.{rayOf}
-use Rattle.detect.specs.declared.saddle.SaddleTest.{SaddleTest}
-use Rattle.detect.specs.declared.saddle.Saddle.{Saddle}
+use Rattle.saddle.specs.declared.SaddleTest.{SaddleTest}
+use Rattle.saddle.specs.declared.Saddle.{Saddle}
+use Rattle.saddle.specs.declared.Saddle.the-variants.{Flat}
 use Rattle.detect.specs.declared.verdict.Verdict.{Verdict}
-use Rattle.detect.specs.Saddle.{saddleOf, saddleAt}
-use Rattle.detect.specs.Around.{Around}
+use Rattle.saddle.specs.Saddle.{saddleOf, saddleAt, diskFits}
+use Rattle.saddle.specs.Steps.{Around}
+use Rattle.saddle.proofs.Fitting.{accepts-plain}
 use Rattle.detect.specs.Window.{value, at, beaten, positives}
-use Rattle.detect.specs.PeakFit.{fitOf}
+use Rattle.peak_fit.specs.PeakFit.{fitOf}
 use Rattle.detect.specs.Above.{entry, over, crest, Reached}
 use Rattle.detect.specs.Corners.{borderOf, candidates, greater, peak, floorOf, corners, firstFailing, isSaddle, isKept, verdict, stride, inputAt, numbers}
 use Rattle.detect.specs.Room.{Room}
@@ -44,6 +46,8 @@ module _ {s : RadonDetectorParams} {t : SaddleTest} {w h x y resp image : ℕ} (
   pub disk-room : Around (rayOf (s .«ray_radius»)) image w h x y
   disk-room = record {
     small = omega arith;
+    wide = c .judging .wide;
+    high = c .judging .high;
     inside = record { left = omega arith; right = omega arith; above = omega arith; below = omega arith };
     room = c .judging .working;
   }
@@ -55,8 +59,10 @@ module _ (s : RadonDetectorParams) (floor : Float) (f : ℕ → ℕ → Float) (
   unfolding verdict
   judged v a m b n c d r = rw (← v, ← m, ← n, ← d, a, b, c) r
 
-  pub saddle-is : {t : SaddleTest} {k : ℕ} {d : Saddle} → t ≡ saddleOf (rayOf (s .«ray_radius»)) → k ≡ rayOf (s .«ray_radius») → d ≡ saddleAt t k g (p .x) (p .y) → d ≡ isSaddle s g p
-  saddle-is a b e = rw (← a, ← b) e
+  pub saddle-is : {t : SaddleTest} {k n w h : ℕ} {d : Saddle} → t ≡ saddleOf (rayOf (s .«ray_radius»)) → k ≡ rayOf (s .«ray_radius»)
+      → Around (rayOf (s .«ray_radius»)) n w h (p .x) (p .y) → d ≡ cond (diskFits k n w h (p .x) (p .y)) (saddleAt t k g (p .x) (p .y)) Flat
+      → d ≡ isSaddle s g p
+  saddle-is a b r e = accepts-plain r _ g (rw (a, b) at e)
 
 -- a coordinate is a float as it is
 pub coordinate : (n : ℕ) → n ≤ 8192 → T (inFloat binary32 (pos n))

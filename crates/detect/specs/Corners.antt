@@ -14,12 +14,12 @@ use Rattle.grid.specs.Rect.{Place, rect}
 use Rattle.params.specs.declared.settings.RadonDetectorParams.{RadonDetectorParams}
 use Rattle.params.specs.Settings.{rayOf}
 use Rattle.params.specs.Coordinates.{toInput}
-use Rattle.detect.specs.declared.saddle.Saddle.{Saddle}
-use Rattle.detect.specs.declared.saddle.Saddle.the-variants.{Yes, Flat, Curved}
+use Rattle.saddle.specs.declared.Saddle.{Saddle}
+use Rattle.saddle.specs.declared.Saddle.the-variants.{Yes, Flat, Curved}
 use Rattle.detect.specs.declared.verdict.Verdict.{Verdict}
 use Rattle.detect.specs.declared.verdict.Verdict.the-variants.{NotAbove, Beaten, TooFew, TooFlat, WrongCurvature, Kept}
-use Rattle.detect.specs.Saddle.{saddleOf, saddleAt}
-use Rattle.detect.specs.PeakFit.{fitOf}
+use Rattle.saddle.specs.Saddle.{saddleOf, saddleAt}
+use Rattle.peak_fit.specs.PeakFit.{fitOf}
 use Rattle.detect.specs.Window.{at, beaten, positives}
 
 -- ---- "The border is ray + suppression radius + 1"

@@ -8,8 +8,8 @@ use Rattle.grid.specs.Rect.{Place, rect}
 use Rattle.grid.specs.Over.{Onward}
 use Rattle.params.specs.declared.settings.RadonDetectorParams.{RadonDetectorParams}
 use Rattle.params.specs.Settings.{rayOf}
-use Rattle.detect.specs.declared.saddle.SaddleTest.{SaddleTest}
-use Rattle.detect.specs.Saddle.{saddleOf}
+use Rattle.saddle.specs.declared.SaddleTest.{SaddleTest}
+use Rattle.saddle.specs.Saddle.{saddleOf}
 use Rattle.detect.specs.Corners.{borderOf, isKept, verdict, stride, numbers}
 
 -- a map w wide and h high, for which the two buffers have room, is judged by settings in range and the saddle numbers of their radius

@@ -1,15 +1,15 @@
 // The scan: the candidates that are kept, in row order, stored as far as the list has room and counted in any case.
 use super::above::max_response;
 use super::above::next_candidate;
-use super::peak_fit::fit_peak_frac;
-use super::saddle::SaddleTest;
-use super::saddle::new;
 use super::verdict::is_kept;
 use super::verdict::judge_at;
 use params::Input;
 use params::PeakFitMode;
 use params::RadonDetectorParams;
 use params::Working;
+use peak_fit::fit_peak_frac;
+use saddle::SaddleTest;
+use saddle::new;
 ghost use mathlib.Core.Path.{_≡_};
 ghost use Prim.Native.Nat.{_+_, _-_, _*_, _/_, _<_, _≤_};
 ghost use mathlib.Core.List.{[], _∷_};
@@ -19,7 +19,7 @@ ghost use Rattle.grid.specs.Rect.{place};
 ghost use Rattle.grid.specs.Ways.{pixel};
 ghost use Rattle.grid.specs.Over.{written};
 ghost use Rattle.detect.specs.Window.{value};
-ghost use Rattle.detect.specs.PeakFit.{fitOf};
+ghost use Rattle.peak_fit.specs.PeakFit.{fitOf};
 ghost use Rattle.detect.specs.Above.{entry};
 ghost use Rattle.detect.specs.Corners.{borderOf, stride, inputAt, numbers, corners};
 ghost use Rattle.detect.specs.Room.{Room};

@@ -1,10 +1,10 @@
 // The verdict on a candidate: the first rule that it fails, the cheapest first, or that it is kept.
 use super::neighbors::count_positive_neighbors;
 use super::neighbors::is_local_max;
-use super::saddle::Saddle;
-use super::saddle::SaddleTest;
-use super::saddle::accepts;
 use params::RadonDetectorParams;
+use saddle::Saddle;
+use saddle::SaddleTest;
+use saddle::accepts;
 ghost use mathlib.Core.Path.{_≡_};
 ghost use Prim.Native.Nat.{_+_, _*_};
 ghost use lib.ListN.{length};

@@ -5,7 +5,7 @@ use Prim.Native.Nat.{ℕ}
 use lib.Ieee.{binary32, ofBits, toBits, ofInt, add, sub, mul, div}
 use Rattle.grid.specs.Each.{each, keep}
 use Rattle.grid.specs.Rect.{from, range, line, rect}
-use Rattle.detect.specs.Saddle.{disk, saddleOf}
+use Rattle.saddle.specs.Saddle.{disk, saddleOf}
 
 unfoldable pub patterns : ℕ → List ℕ
 patterns k =

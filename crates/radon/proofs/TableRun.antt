@@ -22,8 +22,8 @@ use Rattle.response.specs.Response.{raySpread, square, responseAt}
 use Rattle.response.specs.Blur.{blurAt}
 use Rattle.response.specs.Map.{rawAt, mapAt, sideOf, mapOf}
 use Rattle.detect.specs.Window.{beaten, positives}
-use Rattle.detect.specs.Saddle.{saddleOf, saddleAt, disk}
-use Rattle.detect.specs.PeakFit.{fitOf}
+use Rattle.saddle.specs.Saddle.{saddleOf, saddleAt, disk}
+use Rattle.peak_fit.specs.PeakFit.{fitOf}
 use Rattle.detect.specs.Corners.{corners, verdict, floorOf, peak, inputAt, numbers}
 use Rattle.radon.specs.Finder.{found}
 use Rattle.radon.proofs.TableP.{frame}

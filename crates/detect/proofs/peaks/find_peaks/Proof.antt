@@ -5,7 +5,8 @@ use native.Mathlib.Omega.{arith}
 use mathlib.Core.Logic.{inl, inr}
 use lib.Seq.{length-take-le}
 use Rattle.grid.specs.Ways.{pixel}
-use Rattle.detect.specs.Saddle.{saddleOf}
+use Rattle.saddle.specs.Saddle.{saddleNumbers}
+use Rattle.saddle.proofs.Fitting.{numbers-plain}
 use Rattle.detect.specs.Window.{value}
 use Rattle.detect.proofs.Scanning.{FoundTo, found-none, found-more, found-all, none-found, floor-is}
 use Rattle.detect.proofs.peaks.find_peaks.Statement.{statement}
@@ -26,7 +27,9 @@ find-in-row-requires c κs =
         high = o .pre .high;
         ray = o .pre .ray;
         suppression = o .pre .suppression;
-        test = c .before .before .before .new .ensures ∙ ap saddleOf (c .before .before .before .before .ray-radius-clamped .ensures);
+        test =
+            c .before .before .before .new .ensures ∙ ap saddleNumbers (c .before .before .before .before .ray-radius-clamped .ensures)
+            ∙ numbers-plain _ (omega arith) (omega (arith, o .pre .ray));
         response = o .pre .response;
         working = o .pre .working;
       };
@@ -57,7 +60,7 @@ find-peaks-spec =
     (λ c κs. tt)
     (λ c κs. tt)
     (λ c. omega arith)
-    (λ c κs. omega arith)
+    (λ c κs. tt)
     (λ c. omega arith)
     (λ c. found-none _ _ _ _ _ _ _ (c .before .before .before .before .before .before .before .border .ensures) (omega arith))
     find-in-row-requires

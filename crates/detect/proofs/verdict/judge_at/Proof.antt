@@ -6,7 +6,7 @@ use Rattle.grid.specs.Rect.{place}
 use Rattle.grid.specs.Ways.{pixel}
 use Rattle.detect.specs.Window.{value}
 use Rattle.detect.proofs.Windows.{room-row}
-use Rattle.detect.proofs.Scanning.{window-room, judged, saddle-is}
+use Rattle.detect.proofs.Scanning.{window-room, disk-room, judged, saddle-is}
 use borrow.Author.Needs.{needs}
 use Rattle.detect.proofs.verdict.judge_at.Statement.{statement}
 use Rattle.detect.proofs.verdict.judge_at.Tie as tie
@@ -15,7 +15,7 @@ returns : tie.Need-returns
 returns c =
     let o = c .before .before .before .before .before .before .before .before .before .before .before .before .before in
     judged (o .args .params) (o .args .floor) (value (o .args .resp .now) (o .args .w)) (pixel (o .args .image .now) (o .args .w)) (place (o .args .x) (o .args .y)) refl
-    (c .before .before .before .before .before .before .before .before .before .if1 .taken) (c .before .before .before .before .before .before .before .is-local-max .ensures) (c .before .before .before .before .before .before .if2 .taken) (c .before .before .before .before .before .count-positive-neighbors .ensures) (le-leb _ _ (c .before .before .before .if3 .taken)) (saddle-is (o .args .params) (o .args .floor) (value (o .args .resp .now) (o .args .w)) (pixel (o .args .image .now) (o .args .w)) (place (o .args .x) (o .args .y)) (o .pre .judging .test) (c .before .before .ray-radius-clamped .ensures) (c .before .accepts .ensures)) (c .by-saddle .ensures)
+    (c .before .before .before .before .before .before .before .before .before .if1 .taken) (c .before .before .before .before .before .before .before .is-local-max .ensures) (c .before .before .before .before .before .before .if2 .taken) (c .before .before .before .before .before .count-positive-neighbors .ensures) (le-leb _ _ (c .before .before .before .if3 .taken)) (saddle-is (o .args .params) (o .args .floor) (value (o .args .resp .now) (o .args .w)) (pixel (o .args .image .now) (o .args .w)) (place (o .args .x) (o .args .y)) (o .pre .judging .test) (c .before .before .ray-radius-clamped .ensures) (disk-room (o .pre)) (c .before .accepts .ensures)) (c .by-saddle .ensures)
 
 returns-2 : tie.Need-returns-2
 returns-2 c =
