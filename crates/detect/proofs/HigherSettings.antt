@@ -19,7 +19,7 @@ use Rattle.grid.specs.Ways.{pixel}
 use Rattle.params.specs.declared.settings.RadonDetectorParams.{RadonDetectorParams}
 use Rattle.params.specs.Answers.{numberOf}
 use Rattle.params.specs.Refusals.{listRefusal, mapRefusal}
-use Rattle.params.specs.Accepted.{ListPasses, both-pass, list-passes}
+use Rattle.params.proofs.Accepted.{ListPasses, both-pass, list-passes}
 use Rattle.saddle.specs.declared.Saddle.{Saddle}
 use Rattle.saddle.specs.declared.Saddle.the-variants.{Yes, Flat, Curved}
 use Rattle.detect.specs.Window.{at, value, beaten, positives}

@@ -16,7 +16,7 @@ use Rattle.grid.specs.Rect.{Place, place}
 use Rattle.grid.specs.Over.{over, written}
 use Rattle.grid.specs.Ways.{Inside as Clear}
 use Rattle.grid.specs.All.{all, all-map, all-keep, all-take, all-rect, Between, InRect, each-same, keep-same, any-same}
-use Rattle.params.specs.declared.RadonDetectorParams.{RadonDetectorParams}
+use Rattle.params.specs.declared.settings.RadonDetectorParams.{RadonDetectorParams}
 use Rattle.params.specs.Settings.{rayOf}
 use Rattle.detect.specs.declared.verdict.Verdict.{Verdict}
 use Rattle.saddle.specs.Saddle.{saddleOf}

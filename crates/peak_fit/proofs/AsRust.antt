@@ -14,8 +14,8 @@ use Rattle.float.specs.Values.{f0}
 use Rattle.float.specs.Order.{le-lt-trans, le-of-not-lt}
 use Rattle.float.specs.Sized.{Small, small, sized, small-mono, small-of-le, Held, held, div-number, zeroFloat}
 use Rattle.float.specs.Sized.{add-small, sub-small, mul-small}
-use Rattle.params.specs.declared.PeakFitMode.{PeakFitMode}
-use Rattle.params.specs.declared.PeakFitMode.the-variants.{Parabolic, Gaussian}
+use Rattle.params.specs.declared.settings.PeakFitMode.{PeakFitMode}
+use Rattle.params.specs.declared.settings.PeakFitMode.the-variants.{Parabolic, Gaussian}
 use Rattle.scalar.specs.Log.{logOf, terms, high}
 use Rattle.scalar.specs.declared.Log.{Log}
 use Rattle.scalar.specs.declared.Log.the-variants.{Value, Outside}

@@ -3,7 +3,7 @@
 use mathlib.Core.Path.{_≡_}
 use Prim.Native.Nat.{ℕ, _≤_}
 use lib.Ieee.{Float}
-use Rattle.params.specs.declared.PeakFitMode.{PeakFitMode}
+use Rattle.params.specs.declared.settings.PeakFitMode.{PeakFitMode}
 use Rattle.saddle.specs.Saddle.{saddleOf, saddleAt, sumsOf, byCurvatures}
 use Rattle.peak_fit.specs.PeakFit.{fitOf}
 use Rattle.saddle.proofs.Rooted.{by-root, trace, spreadSquared, nearestRoot}
