@@ -15,18 +15,19 @@ use Rattle.float.specs.Product.{fraction-lower}
 use Rattle.grid.specs.Each.{each, keep, keep-keep, keep-ext, count, count-most}
 use Rattle.grid.specs.Rect.{Place}
 use Rattle.grid.specs.Over.{written, opening}
-use Rattle.grid.specs.Ways.{pixel}
+use Rattle.grid.specs.Ways.{pixel, value}
 use Rattle.params.specs.declared.RadonDetectorParams.{RadonDetectorParams}
 use Rattle.params.specs.Answers.{numberOf}
 use Rattle.params.specs.Refusals.{listRefusal, mapRefusal}
 use Rattle.params.specs.Accepted.{ListPasses, both-pass, list-passes}
 use Rattle.detect.specs.declared.saddle.Saddle.{Saddle}
 use Rattle.detect.specs.declared.saddle.Saddle.the-variants.{Yes, Flat, Curved}
-use Rattle.detect.specs.Window.{at, value, beaten, positives}
-use Rattle.detect.specs.Corners.{borderOf, candidates, peak, floorOf, firstFailing, isSaddle, isKept, verdict, corners, numbers, stride}
+use Rattle.detect.specs.Window.{at, beaten, positives}
+use Rattle.detect.specs.Maximum.{maximum}
+use Rattle.detect.specs.Corners.{borderOf, candidates, floorOf, firstFailing, isSaddle, isKept, verdict, corners, numbers, stride}
 use Rattle.detect.specs.Detected.{workingRefusal, peaksRefusal, refusalFor, foundIn, listOf}
 use Rattle.detect.proofs.Scanning.{numbers-long}
-use Rattle.detect.proofs.Kept.{peak-nonneg}
+use Rattle.detect.proofs.Kept.{maximum-nonneg}
 
 -- the same settings with another fraction and another least count
 abbrev pub raised : RadonDetectorParams → Float → ℕ → RadonDetectorParams
@@ -61,7 +62,7 @@ module _ (s : RadonDetectorParams) (t : Float) (n w h : ℕ) (f : ℕ → ℕ �
   pub higher-floor : T (le f0 (s .«threshold_rel»)) → T (le (s .«threshold_rel») t) → T (le f0 t) → T (le t f1)
       → (v : Float) → T (lt (floorOf (raised s t n) w h f) v) → T (lt (floorOf s w h f) v)
   unfolding floorOf
-  higher-floor a b c d v k = fraction-lower (s .«threshold_rel») t (peak w h f) v a b c d (peak-nonneg w h f) k
+  higher-floor a b c d v k = fraction-lower (s .«threshold_rel») t (maximum w h f) v a b c d (maximum-nonneg w h f) k
 
   pub higher-corners : (g : ℕ → ℕ → ℕ) → T (le f0 (s .«threshold_rel»)) → T (le (s .«threshold_rel») t) → T (le f0 t) → T (le t f1) → s .«min_cluster_size» ≤ n
       → corners (raised s t n) w h f g ≡ keep (passesHigher (raised s t n) w h f) (corners s w h f g)

@@ -22,8 +22,9 @@ use Rattle.detect.specs.declared.saddle.SaddleTest.{SaddleTest}
 use Rattle.detect.specs.declared.saddle.Sums.{Sums}
 use Rattle.detect.specs.declared.verdict.Verdict.{Verdict}
 use Rattle.detect.specs.Saddle.{side, disk, inDisk, offset, overDisk, added, around, noSums, sumsOf, saddleAt, saddleOf, judge}
+use Rattle.detect.specs.Maximum.{greater, maximum}
 use Rattle.detect.specs.Window.{at, window, same, beaten, positives}
-use Rattle.detect.specs.Corners.{borderOf, candidates, greater, peak, floorOf, firstFailing, isSaddle, isKept, verdict, corners, offsetX, offsetY, inputAt, numbers, stride}
+use Rattle.detect.specs.Corners.{borderOf, candidates, floorOf, firstFailing, isSaddle, isKept, verdict, corners, offsetX, offsetY, inputAt, numbers, stride}
 
 -- k around x and y lies inside
 pub record Clear (w h k x y : ℕ) : Type 0 where
@@ -78,13 +79,13 @@ module _ (f g : ℕ → ℕ → Float) (w h r x y : ℕ) (m : Clear w h r x y) (
 -- ---- the list
 
 module _ (s : RadonDetectorParams) (w h : ℕ) (f g : ℕ → ℕ → Float) (a b : ℕ → ℕ → ℕ) (e : (x y : ℕ) → x < w → y < h → f x y ≡ g x y) (d : (x y : ℕ) → x < w → y < h → a x y ≡ b x y) where
-  pub peak-same : peak w h f ≡ peak w h g
-  unfolding peak plane
-  peak-same = fold-ext greater f0 _ _ (w * h) (λ i l. e _ _ (column-in w h l) (row-number-in w h l))
+  pub maximum-same : maximum w h f ≡ maximum w h g
+  unfolding maximum plane
+  maximum-same = fold-ext greater f0 _ _ (w * h) (λ i l. e _ _ (column-in w h l) (row-number-in w h l))
 
   pub floor-same : floorOf s w h f ≡ floorOf s w h g
   unfolding floorOf
-  floor-same = ap (mul binary32 (s .«threshold_rel»)) peak-same
+  floor-same = ap (mul binary32 (s .«threshold_rel»)) maximum-same
 
   -- a candidate is clear of the edges by the suppression radius, by the ray radius and by one
   verdict-same : (floor : Float) (x y : ℕ) → Clear w h (s .«nms_radius») x y → Clear w h (rayOf (s .«ray_radius»)) x y → verdict s floor f a (place x y) ≡ verdict s floor g b (place x y)

@@ -1,0 +1,56 @@
+-- `detect::crests::pass_eights` meets its contract. The invariant: no entry before i is above the floor. Assumes nothing.
+use Prim.Native.Nat.{_-_}
+use Rattle.detect.specs.Crests.{over, Passed}
+use Rattle.detect.proofs.Passing.{passed-none, passed-eight}
+use native.Mathlib.Omega.{arith}
+use Rattle.detect.proofs.crests.pass_eights.Statement.{statement}
+use Rattle.detect.proofs.crests.pass_eights.Tie as tie
+
+abbrev Inv-loop : tie.InvT-loop
+Inv-loop s from floor n i₀ i = Passed (over floor s) from n i
+
+abbrev μ-loop : tie.MeasureT-loop
+μ-loop s from floor n i₀ i = n - i
+
+loop-holds : tie.Need-loop-holds Inv-loop μ-loop
+loop-holds c = passed-none _ _ _ (omega arith)
+
+sub-loop : tie.Need-sub-loop Inv-loop μ-loop
+sub-loop c = omega arith
+
+eight-above-requires : tie.Need-eight-above-requires Inv-loop μ-loop
+eight-above-requires c κs = omega arith
+
+-- the turn's start
+abbrev turn : tie.After-eight-above Inv-loop μ-loop → tie.At-loop Inv-loop μ-loop
+turn c = c .before .before
+
+returns : tie.Need-returns Inv-loop μ-loop
+returns c = turn (c .before) .loop .inv
+
+add-i : tie.Need-add-i Inv-loop μ-loop
+add-i c = omega arith
+
+loop-less : tie.Need-loop-less Inv-loop μ-loop
+loop-less c = omega arith
+
+loop-again : tie.Need-loop-again Inv-loop μ-loop
+loop-again c = passed-eight _ _ _ (turn (c .before) .loop .inv) (omega arith) (c .before .eight-above .ensures) (c .if1 .left)
+
+returns-2 : tie.Need-returns-2 Inv-loop μ-loop
+returns-2 c = c .before .loop .inv
+
+pub pass-eights-spec : {M : Type 1} → statement M
+pass-eights-spec =
+    tie.close
+    (tie.spec
+    Inv-loop
+    μ-loop
+    loop-holds
+    sub-loop
+    eight-above-requires
+    returns
+    add-i
+    loop-less
+    loop-again
+    returns-2)
