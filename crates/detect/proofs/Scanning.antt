@@ -75,8 +75,8 @@ module _ (s : Scan) (resp : List Float) (image : List ℕ) (x y : ℕ) where
 
   -- the four rules' answers a, m, e and d, of which those that are not reached may be any
   rules : {a m e : Bool} {d : Saddle} {r : Verdict} → lt (s .floor) (map x y) ≡ a → not (beaten map (s .params .«nms_radius») here) ≡ m
-      → leb (s .params .«min_cluster_size») (positives map (s .params .«nms_radius») here) ≡ e → isSaddle (s .params) (pixel image (s .w)) here ≡ d
-      → r ≡ firstFailing a m e d → r ≡ verdictIn s resp image here
+      → leb (s .params .«min_cluster_size») (positives map (s .params .«nms_radius») here) ≡ e
+      → isSaddle (s .params) (pixel image (s .w)) here ≡ d → r ≡ firstFailing a m e d → r ≡ verdictIn s resp image here
   unfolding verdict
   rules a m e d r = rw (a, m, e, d) r
 
@@ -88,14 +88,16 @@ module _ (s : Scan) (resp : List Float) (image : List ℕ) (x y : ℕ) where
     is-beaten t = rules a (sym b ∙ t) refl refl refl
 
     module _ (t : m ≡ true) {n : ℕ} (c : n ≡ positives map (s .params .«nms_radius») here) where
-      enough : {e : Bool} → leb (s .params .«min_cluster_size») n ≡ e → leb (s .params .«min_cluster_size») (positives map (s .params .«nms_radius») here) ≡ e
+      enough : {e : Bool} → leb (s .params .«min_cluster_size») n ≡ e
+          → leb (s .params .«min_cluster_size») (positives map (s .params .«nms_radius») here) ≡ e
       enough u = rw (← c) u
 
       pub too-few : n < s .params .«min_cluster_size» → TooFew ≡ verdictIn s resp image here
       too-few u = rules a (sym b ∙ t) (enough (lt-leb _ _ u)) refl refl
 
-      pub as-saddle : {k : ℕ} {d : Saddle} {r : Verdict} → s .params .«min_cluster_size» ≤ n → s .test ≡ saddleOf (rayOf (s .params .«ray_radius»))
-          → k ≡ rayOf (s .params .«ray_radius») → d ≡ saddleAt (s .test) k (pixel image (s .w)) x y → r ≡ bySaddle d → r ≡ verdictIn s resp image here
+      pub as-saddle : {k : ℕ} {d : Saddle} {r : Verdict} → s .params .«min_cluster_size» ≤ n
+          → s .test ≡ saddleOf (rayOf (s .params .«ray_radius»)) → k ≡ rayOf (s .params .«ray_radius»)
+          → d ≡ saddleAt (s .test) k (pixel image (s .w)) x y → r ≡ bySaddle d → r ≡ verdictIn s resp image here
       as-saddle {d = q} u f g d r = rules {d = q} a (sym b ∙ t) (enough (le-leb _ _ u)) (rw (← f, ← g) (sym d)) r
 
 -- ---- a corner's numbers, stored
@@ -114,7 +116,8 @@ module _ (s : Scan) (l r : List Float) (n x y : ℕ) (k : Cross (s .w) x y (leng
   abbrev centre : ℕ
   centre = y * s .w + x
 
-  pub stored : {fx fy a b : Float} {new : List Float} → fx ≡ fitAround (s .params .«peak_fit») r centre 1 → fy ≡ fitAround (s .params .«peak_fit») r centre (s .w)
+  pub stored : {fx fy a b : Float} {new : List Float}
+      → fx ≡ fitAround (s .params .«peak_fit») r centre 1 → fy ≡ fitAround (s .params .«peak_fit») r centre (s .w)
       → a ≡ inputAt (s .params .«image_upsample») x fx → b ≡ inputAt (s .params .«image_upsample») y fy
       → new ≡ sets l (stride * n) (a ∷ b ∷ entry r centre ∷ []) → new ≡ sets l (stride * n) (numbersIn s r (place x y))
   unfolding numbers
@@ -127,21 +130,22 @@ module _ (s : Scan) (l r : List Float) (n x y : ℕ) (k : Cross (s .w) x y (leng
 
 -- ---- a candidate that is judged, by what was said of it
 
-module _ (s : Scan) (resp : List Float) (image : List ℕ) (x y : ℕ) {v : Verdict} {r : Bool}
+said : {a v : Verdict} {r b : Bool} → v ≡ a → r ≡ isKept v → r ≡ b → isKept a ≡ b
+said is kept t = ap isKept (sym is) ∙ sym kept ∙ t
+
+module _ {s : Scan} {resp : List Float} {image : List ℕ} {x y : ℕ} {mid : List Float} {n : ℕ} {v : Verdict} {r : Bool}
     (is : v ≡ verdictIn s resp image (place x y)) (kept : r ≡ isKept v) where
-  said : {b : Bool} → r ≡ b → keptIn s resp image (place x y) ≡ b
-  said t = ap isKept (sym is) ∙ sym kept ∙ t
+  pub entered-no : r ≡ false → Entered s resp image x y mid n mid n
+  entered-no t = record { onward = λ l. onward-no _ _ _ _ _ _ _ _ (onward-none _ _ _ _ _ _) (said is kept t); few = omega arith }
 
-  pub entered-no : {mid : List Float} {n : ℕ} → r ≡ false → Entered s resp image x y mid n mid n
-  entered-no t = record { onward = λ l. onward-no _ _ _ _ _ _ _ _ (onward-none _ _ _ _ _ _) (said t); few = omega arith }
+  pub entered-full : {new : List Float} → r ≡ true → length mid / stride ≤ n → new ≡ mid → Entered s resp image x y mid n new (n + 1)
+  entered-full t l e =
+      rw e (record { onward = λ p. onward-full _ _ _ _ _ _ _ _ (onward-none _ _ _ _ _ _) (said is kept t) l; few = omega arith })
 
-  pub entered-full : {mid new : List Float} {n : ℕ} → r ≡ true → length mid / stride ≤ n → new ≡ mid → Entered s resp image x y mid n new (n + 1)
-  entered-full t l e = rw e (record { onward = λ p. onward-full _ _ _ _ _ _ _ _ (onward-none _ _ _ _ _ _) (said t) l; few = omega arith })
-
-  pub entered-put : {mid new : List Float} {n : ℕ} → r ≡ true → n < length mid / stride → new ≡ sets mid (stride * n) (numbersIn s resp (place x y))
+  pub entered-put : {new : List Float} → r ≡ true → n < length mid / stride → new ≡ sets mid (stride * n) (numbersIn s resp (place x y))
       → Entered s resp image x y mid n new (n + 1)
   entered-put t l e = record {
-    onward = λ p. onward-put _ _ _ _ _ _ _ _ (numbers-long (s .params) (value resp (s .w))) (onward-none _ _ _ _ _ _) (said t) l e;
+    onward = λ p. onward-put _ _ _ _ _ _ _ _ (numbers-long (s .params) (value resp (s .w))) (onward-none _ _ _ _ _ _) (said is kept t) l e;
     few = omega arith;
   }
 
@@ -224,14 +228,15 @@ onward-on a b = record { on = λ old h. b .on old (a .on old h); same = b .same 
 -- ---- the scan at x of row y: `mid` and m are the list and the count with which the row began
 
 pub record Scanned (s : Scan) (resp : List Float) (image : List ℕ) (y : ℕ) (mid : List Float) (m : ℕ) (out : List Float) (n x : ℕ) : Type 0 where
-  pub across : Across (Onward stride (numbersIn s resp) (keptIn s resp image) mid m (rowsAbove s y) out n) (borderIn s) (s .w - borderIn s) (borderIn s) (s .h - borderIn s) y x
+  pub across : Across (Onward stride (numbersIn s resp) (keptIn s resp image) mid m (rowsAbove s y) out n)
+      (borderIn s) (s .w - borderIn s) (borderIn s) (s .h - borderIn s) y x
   pub few : n ≤ m + x
 
 -- a search that goes on past x comes nearer the end
 pub nearer : (e x i : ℕ) → x < e → x + 1 ≤ i → e - i < e - x
 nearer e x i a b = omega arith
 
-module _ (s : Scan) (resp : List Float) (image : List ℕ) (y : ℕ) (mid : List Float) (m : ℕ) (f : Finding s y m (length resp) (length image))
+module _ {s : Scan} {resp : List Float} {image : List ℕ} {y : ℕ} {mid : List Float} {m : ℕ} (f : Finding s y m (length resp) (length image))
     {b : ℕ} (border : b ≡ borderIn s) where
   pub scan-none : Scanned s resp image y mid m mid m b
   scan-none =
@@ -267,10 +272,11 @@ module _ (s : Scan) (resp : List Float) (image : List ℕ) (y : ℕ) (mid : List
 -- ---- the scan over the rows: what is found above row y
 
 pub record FoundTo (s : Scan) (resp : List Float) (image : List ℕ) (old out : List Float) (n y : ℕ) : Type 0 where
-  pub down : Down (Listed stride (numbersIn s resp) (keptIn s resp image) old out n) (borderIn s) (s .w - borderIn s) (borderIn s) (s .h - borderIn s) y
+  pub down : Down (Listed stride (numbersIn s resp) (keptIn s resp image) old out n)
+      (borderIn s) (s .w - borderIn s) (borderIn s) (s .h - borderIn s) y
   pub few : n ≤ 8192 * y
 
-module _ (s : Scan) (resp : List Float) (image : List ℕ) (old : List Float) where
+module _ {s : Scan} {resp : List Float} {image : List ℕ} {old : List Float} where
   pub found-none : {b : ℕ} → b ≡ borderIn s → borderIn s + borderIn s < s .h → FoundTo s resp image old old 0 b
   found-none e b = rw e (record { down = down-none _ _ _ _ _ (omega arith) (listed-none _ _ _ _); few = omega arith })
 
@@ -306,20 +312,20 @@ empty : {A : Type 0} (l : List A) → length l ≡ 0 → l ≡ []
 empty [] e = refl
 empty (a ∷ l) e = absurd (omega arith)
 
-too-small : (s : RadonDetectorParams) (w h b : ℕ) (f : ℕ → ℕ → Float) (g : ℕ → ℕ → ℕ) → (w ≤ 2 * b) ⊎ (h ≤ 2 * b) → candidates w h b ≡ []
-too-small s w h b f g c =
+too-small : (w h b : ℕ) → (w ≤ 2 * b) ⊎ (h ≤ 2 * b) → candidates w h b ≡ []
+too-small w h b c =
     let z : length (candidates w h b) ≡ 0 = length-rect b (w - b) b (h - b) ∙ elim c [
       | inl k ↦ ap (λ (i : ℕ). i * (h - b - b)) (omega arith) ∙ zero-mul (h - b - b)
       | inr k ↦ ap (λ (i : ℕ). (w - b - b) * i) (omega arith) ∙ mul-zero (w - b - b)
     ] in
     empty (candidates w h b) z
 
-pub none-found : (s : Scan) (resp : List Float) (image : List ℕ) (old : List Float) {b : ℕ} → b ≡ borderIn s → (s .w ≤ 2 * b) ⊎ (s .h ≤ 2 * b)
+pub none-found : {s : Scan} {resp : List Float} {image : List ℕ} {old : List Float} {b : ℕ} → b ≡ borderIn s → (s .w ≤ 2 * b) ⊎ (s .h ≤ 2 * b)
     → Found s resp image old 0 old
 unfolding corners
-none-found s resp image old e c =
+none-found {s} {resp} {image} {old} e c =
     let l = listed-none stride (numbersIn s resp) (λ p. true) old in
-    let z : candidates (s .w) (s .h) (borderIn s) ≡ [] = rw e at (too-small (s .params) (s .w) (s .h) _ (value resp (s .w)) (pixel image (s .w)) c) in
+    let z : candidates (s .w) (s .h) (borderIn s) ≡ [] = rw e at (too-small (s .w) (s .h) _ c) in
     record { count = rw (z, keep-none); list = rw (z, keep-none) (rw keep-none at (l .fill)) }
 
 -- ---- what the scan goes by
@@ -335,11 +341,13 @@ pub floor-is : (s : RadonDetectorParams) (r : List Float) (w h : ℕ) {m : Float
 unfolding floorOf
 floor-is s r w h l e = ap (mul binary32 (s .«threshold_rel»)) (e ∙ maximum-is r w h l)
 
-pub scan-is : (s : RadonDetectorParams) (r : List Float) (w h : ℕ) {m : Float} {k : ℕ} {t : SaddleTest} → w * h ≤ length r → m ≡ greatestOf (take (w * h) r)
+pub scan-is : (s : RadonDetectorParams) (r : List Float) (w h : ℕ) {m : Float} {k : ℕ} {t : SaddleTest}
+    → w * h ≤ length r → m ≡ greatestOf (take (w * h) r)
     → k ≡ rayOf (s .«ray_radius») → t ≡ saddleOf k
     → _≡_ {A = Scan} (record { w = w; h = h; params = s; test = t; floor = mul binary32 (s .«threshold_rel») m }) (scanOf s w h r)
 scan-is s r w h l e k t = rw (t, k, floor-is s r w h l e)
 
-pub judging : (s : RadonDetectorParams) (w h : ℕ) (resp : List Float) (image : List ℕ) {c : Scan} → c ≡ scanOf s w h resp → Asked s w h (length resp) (length image)
+pub judging : (s : RadonDetectorParams) (w h : ℕ) (resp : List Float) (image : List ℕ) {c : Scan}
+    → c ≡ scanOf s w h resp → Asked s w h (length resp) (length image)
     → Judging c (length resp) (length image) × (c .floor ≡ floorIn c resp)
 judging s w h resp image e a = rw e (record { asked = a; test = refl }, refl)

@@ -21,12 +21,8 @@ loop-holds c = c .pass-flat-eights .ensures
 is-crest-requires : tie.Need-is-crest-requires Inv-loop μ-loop
 is-crest-requires c κs = omega arith
 
--- the turn's start
-abbrev turn : tie.After-is-crest Inv-loop μ-loop → tie.At-loop Inv-loop μ-loop
-turn c = c .before .before
-
 returns : tie.Need-returns Inv-loop μ-loop
-returns c = next-found _ _ _ (turn (c .before) .loop .inv) (c .before .is-crest .ensures) (c .if1 .taken)
+returns c = next-found _ _ _ (c .before .before .before .loop .inv) (c .before .is-crest .ensures) (c .if1 .taken)
 
 add-i : tie.Need-add-i Inv-loop μ-loop
 add-i c = omega arith
@@ -35,7 +31,7 @@ loop-less : tie.Need-loop-less Inv-loop μ-loop
 loop-less c = omega arith
 
 loop-again : tie.Need-loop-again Inv-loop μ-loop
-loop-again c = passed-one _ _ _ (turn (c .before) .loop .inv) (omega arith) (c .before .is-crest .ensures) (c .if1 .left)
+loop-again c = passed-one _ _ _ (c .before .before .before .loop .inv) (omega arith) (c .before .is-crest .ensures) (c .if1 .left)
 
 returns-2 : tie.Need-returns-2 Inv-loop μ-loop
 returns-2 c = next-none _ _ _ (c .before .loop .inv) (c .loop-test .left)

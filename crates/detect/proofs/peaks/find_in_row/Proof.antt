@@ -40,15 +40,13 @@ next-in-row-requires c κs = omega arith
 loop-holds : tie.Need-loop-holds Inv-loop μ-loop
 loop-holds c =
     let b = c .before .before in
-    let o = start b in
-    scan-on (o .args .scan) (o .args .resp .now) (o .args .image .now) (o .args .y) (o .args .list .now) (o .args .n) (o .pre) (b .border .ensures)
-    (scan-none _ _ _ _ _ _ (o .pre) (b .border .ensures)) (c .next-in-row .ensures)
+    scan-on (start b .pre) (b .border .ensures) (scan-none (start b .pre) (b .border .ensures)) (c .next-in-row .ensures)
 
 list-if-kept-requires : tie.Need-list-if-kept-requires Inv-loop μ-loop
 list-if-kept-requires c κs =
     let t = c .before in
     let b = bordered (t .before) in
-    candidate _ _ _ _ _ _ (start b .pre) (b .border .ensures) (t .before .loop .inv) (t .loop-test .taken)
+    candidate (start b .pre) (b .border .ensures) (t .before .loop .inv) (t .loop-test .taken)
 
 add-next-in-row : tie.Need-add-next-in-row Inv-loop μ-loop
 add-next-in-row c = omega arith
@@ -64,9 +62,8 @@ loop-again c =
     let k = judged c in
     let t = turn k in
     let b = bordered (t .before) in
-    let o = start b in
-    scan-on (o .args .scan) (o .args .resp .now) (o .args .image .now) (o .args .y) (o .args .list .now) (o .args .n) (o .pre) (b .border .ensures)
-    (scan-turn _ _ _ _ _ _ (o .pre) (b .border .ensures) (t .before .loop .inv) (t .loop-test .taken) (k .list-if-kept .ensures))
+    scan-on (start b .pre) (b .border .ensures)
+    (scan-turn (start b .pre) (b .border .ensures) (t .before .loop .inv) (t .loop-test .taken) (k .list-if-kept .ensures))
     (c .next-in-row2 .ensures)
 
 same-length : tie.Need-same-length Inv-loop μ-loop
@@ -75,7 +72,7 @@ same-length c = c .before .loop .inv .across .holds .same
 returns : tie.Need-returns Inv-loop μ-loop
 returns c =
     let b = bordered (c .before) in
-    scan-all _ _ _ _ _ _ (start b .pre) (b .border .ensures) (c .before .loop .inv) (c .loop-test .left)
+    scan-all (start b .pre) (b .border .ensures) (c .before .loop .inv) (c .loop-test .left)
 
 pub find-in-row-spec : {M : Type 1} → statement M
 find-in-row-spec =

@@ -21,10 +21,6 @@ start c = c .before .before .before .before
 abbrev bordered : tie.At-loop Inv-loop μ-loop → tie.After-border Inv-loop μ-loop
 bordered c = c .before .before .before
 
--- a turn's row
-abbrev scanned : tie.After-slice-known2 Inv-loop μ-loop → tie.After-find-in-row Inv-loop μ-loop
-scanned c = c .before .before
-
 border-requires : tie.Need-border-requires Inv-loop μ-loop
 border-requires c κs = search needs
 
@@ -32,34 +28,24 @@ mul-if1 : tie.Need-mul-if1 Inv-loop μ-loop
 mul-if1 c = omega arith
 
 returns : tie.Need-returns Inv-loop μ-loop
-returns c =
-    let b = c .before in
-    let o = start b .args in
-    none-found (o .scan) (o .resp .now) (o .image .now) (o .list .now) (b .border .ensures) (inl (c .if1 .taken))
+returns c = none-found (c .before .border .ensures) (inl (c .if1 .taken))
 
 mul-if2 : tie.Need-mul-if2 Inv-loop μ-loop
 mul-if2 c = omega arith
 
 returns-2 : tie.Need-returns-2 Inv-loop μ-loop
-returns-2 c =
-    let b = c .before .before in
-    let o = start b .args in
-    none-found (o .scan) (o .resp .now) (o .image .now) (o .list .now) (b .border .ensures) (inr (c .if2 .taken))
+returns-2 c = none-found (c .before .before .border .ensures) (inr (c .if2 .taken))
 
 sub-ey : tie.Need-sub-ey Inv-loop μ-loop
 sub-ey c = omega arith
 
 loop-holds : tie.Need-loop-holds Inv-loop μ-loop
-loop-holds c =
-    let b = c .before .before in
-    let o = start b .args in
-    found-none (o .scan) (o .resp .now) (o .image .now) (o .list .now) (b .border .ensures) (omega arith)
+loop-holds c = found-none (c .before .before .border .ensures) (omega arith)
 
 find-in-row-requires : tie.Need-find-in-row-requires Inv-loop μ-loop
 find-in-row-requires c κs =
     let l = c .before .before in
-    let o = start (bordered l) in
-    finding (o .args .scan) (o .args .resp .now) (o .args .image .now) (o .args .list .now) (l .loop .inv) (o .pre .0) (omega arith) (omega arith)
+    finding (l .loop .inv) (start (bordered l) .pre .0) (omega arith) (omega arith)
 
 add-y : tie.Need-add-y Inv-loop μ-loop
 add-y c = omega arith
@@ -69,11 +55,9 @@ loop-less c = omega arith
 
 loop-again : tie.Need-loop-again Inv-loop μ-loop
 loop-again c =
-    let r = scanned c in
+    let r = c .before .before in
     let l = r .before .before .before in
-    let o = start (bordered l) in
-    found-more (o .args .scan) (o .args .resp .now) (o .args .image .now) (o .args .list .now) (l .loop .inv) (o .pre .0 .asked .wide) (omega arith)
-    (r .find-in-row .ensures)
+    found-more (l .loop .inv) (start (bordered l) .pre .0 .asked .wide) (omega arith) (r .find-in-row .ensures)
 
 same-length : tie.Need-same-length Inv-loop μ-loop
 same-length c = c .before .loop .inv .down .holds .long
@@ -81,8 +65,7 @@ same-length c = c .before .loop .inv .down .holds .long
 returns-3 : tie.Need-returns-3 Inv-loop μ-loop
 returns-3 c =
     let l = c .before in
-    let o = start (bordered l) in
-    found-all (o .args .scan) (o .args .resp .now) (o .args .image .now) (o .args .list .now) (l .loop .inv) (omega arith) (o .pre .1)
+    found-all (l .loop .inv) (omega arith) (start (bordered l) .pre .1)
 
 pub find-peaks-spec : {M : Type 1} → statement M
 find-peaks-spec =

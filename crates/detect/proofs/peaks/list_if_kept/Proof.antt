@@ -31,22 +31,16 @@ returns : tie.Need-returns
 returns c =
     let t = c .before in
     let v = judged t in
-    let o = start v .args in
     elim (c .if2 .came) [
-      | inl k ↦ entered-put (o .scan) (o .resp .now) (o .image .now) (o .x) (o .y) (v .judge-at .ensures) (t .before .is-kept .ensures)
-          (t .if1 .taken) (k .0 .taken) (k .5 ∙ k .2 .ensures)
-      | inr k ↦ entered-full (o .scan) (o .resp .now) (o .image .now) (o .x) (o .y) (v .judge-at .ensures) (t .before .is-kept .ensures)
-          (t .if1 .taken) (k .0 .left) (k .1)
+      | inl k ↦ entered-put (v .judge-at .ensures) (t .before .is-kept .ensures) (t .if1 .taken) (k .0 .taken) (k .5 ∙ k .2 .ensures)
+      | inr k ↦ entered-full (v .judge-at .ensures) (t .before .is-kept .ensures) (t .if1 .taken) (k .0 .left) (k .1)
     ]
 
 same-length : tie.Need-same-length
 same-length c = returns c .onward [] .same
 
 returns-2 : tie.Need-returns-2
-returns-2 c =
-    let v = c .before .before in
-    let o = start v .args in
-    entered-no (o .scan) (o .resp .now) (o .image .now) (o .x) (o .y) (v .judge-at .ensures) (c .before .is-kept .ensures) (c .if1 .left)
+returns-2 c = entered-no (c .before .before .judge-at .ensures) (c .before .is-kept .ensures) (c .if1 .left)
 
 pub list-if-kept-spec : {M : Type 1} → statement M
 list-if-kept-spec =
