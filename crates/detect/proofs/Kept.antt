@@ -28,14 +28,16 @@ use Rattle.detect.proofs.Greatest.{greatest-nonneg}
 -- ---- the count
 
 pub count-is-kept : (s : RadonDetectorParams) (w h : ℕ) (resp : List Float) (image : List ℕ) (len : ℕ) → numberOf (refusalFor s w h resp image) ≡ 0
-    → (peaksOutcome s w h resp image len) .count ≡ count (λ p. isKept (verdict s (floorOf s w h (value resp w)) (value resp w) (pixel image w) p)) (candidates w h (borderOf s))
+    → (peaksOutcome s w h resp image len) .count
+    ≡ count (λ p. isKept (verdict s (floorOf s w h (value resp w)) (value resp w) (pixel image w) p)) (candidates w h (borderOf s))
 unfolding peaksOutcome count corners
 count-is-kept s w h resp image len e = rw (eq-eqb _ 0 e)
 
 -- ---- a plateau
 
 -- where no value of the window is greater, none beats the candidate: equal ones least of all
-pub level : (f : ℕ → ℕ → Float) (r x y : ℕ) → ((u v : ℕ) → x - r ≤ u → u < x + r + 1 → y - r ≤ v → v < y + r + 1 → lt (f x y) (f u v) ≡ false) → beaten f r (place x y) ≡ false
+pub level : (f : ℕ → ℕ → Float) (r x y : ℕ)
+    → ((u v : ℕ) → x - r ≤ u → u < x + r + 1 → y - r ≤ v → v < y + r + 1 → lt (f x y) (f u v) ≡ false) → beaten f r (place x y) ≡ false
 unfolding beaten
 level f r x y h = any-rect-none _ (x - r) (x + r + 1) (y - r) (y + r + 1) h
 
@@ -45,7 +47,8 @@ equal f x y u v e = rw e (lt-itself (f x y))
 -- so each candidate of a plateau is kept, if the other rules pass it
 pub plateau : (s : RadonDetectorParams) (floor : Float) (f : ℕ → ℕ → Float) (g : ℕ → ℕ → ℕ) (x y : ℕ) → lt floor (f x y) ≡ true
     → ((u v : ℕ) → x - s .«nms_radius» ≤ u → u < x + s .«nms_radius» + 1 → y - s .«nms_radius» ≤ v → v < y + s .«nms_radius» + 1 → f u v ≡ f x y)
-    → leb (s .«min_cluster_size») (positives f (s .«nms_radius») (place x y)) ≡ true → isSaddle s g (place x y) ≡ Yes → verdict s floor f g (place x y) ≡ Kept
+    → leb (s .«min_cluster_size») (positives f (s .«nms_radius») (place x y)) ≡ true → isSaddle s g (place x y) ≡ Yes
+    → verdict s floor f g (place x y) ≡ Kept
 unfolding verdict
 plateau s floor f g x y a h n t = rw (a, level f (s .«nms_radius») x y (λ u v b c d e. equal f x y u v (h u v b c d e)), n, t)
 
@@ -56,15 +59,18 @@ unfolding maximum
 maximum-nonneg w h f = greatest-nonneg (plane w f) (w * h)
 
 -- An infinite maximum, at which the source returns nothing: no candidate is above the floor.
-pub infinite-none : (s : RadonDetectorParams) (w h : ℕ) (f : ℕ → ℕ → Float) (g : ℕ → ℕ → ℕ) (p : Place) → T (le f0 (s .«threshold_rel»)) → maximum w h f ≡ inf false
+pub infinite-none : (s : RadonDetectorParams) (w h : ℕ) (f : ℕ → ℕ → Float) (g : ℕ → ℕ → ℕ) (p : Place)
+    → T (le f0 (s .«threshold_rel»)) → maximum w h f ≡ inf false
     → verdict s (floorOf s w h f) f g p ≡ NotAbove
 unfolding verdict floorOf
 infinite-none s w h f g p a e = rw (e, infinite-product (s .«threshold_rel») (at f p) a)
 
 -- No value above 0: the maximum is 0 here and at most 0 in the source, whose floor is then 0. No candidate is above either.
-pub flat-none : (s : RadonDetectorParams) (w h : ℕ) (f : ℕ → ℕ → Float) (g : ℕ → ℕ → ℕ) (p : Place) → T (le f0 (s .«threshold_rel»)) → T (le (s .«threshold_rel») f1)
+pub flat-none : (s : RadonDetectorParams) (w h : ℕ) (f : ℕ → ℕ → Float) (g : ℕ → ℕ → ℕ) (p : Place)
+    → T (le f0 (s .«threshold_rel»)) → T (le (s .«threshold_rel») f1)
     → ((x y : ℕ) → lt f0 (f x y) ≡ false) → verdict s (floorOf s w h f) f g p ≡ NotAbove
 unfolding verdict floorOf maximum plane
 flat-none s w h f g p a b e =
-    let z : fold greater f0 (plane w f) (w * h) ≡ f0 = fold-keeps greater f0 (λ n m. m ≡ f0) (plane w f) refl (λ n m q. rw (q, e (n % w) (n / w))) (w * h) in
+    let z : fold greater f0 (plane w f) (w * h) ≡ f0 =
+    fold-keeps greater f0 (λ n m. m ≡ f0) (plane w f) refl (λ n m q. rw (q, e (n % w) (n / w))) (w * h) in
     rw (z, zero-product (s .«threshold_rel») (at f p) a b (e (p .x) (p .y)))

@@ -29,7 +29,8 @@ module _ (s : RadonDetectorParams) (w h : ℕ) (resp : List Float) (image : List
   unfolding peaksOutcome
   same-total a b = go (eqb (numberOf (refusalFor s w h resp image)) 0)
     where
-      go : (t : Bool) → (cond t (done a) (refused (refusalFor s w h resp image))) .count ≡ (cond t (done b) (refused (refusalFor s w h resp image))) .count
+      go : (t : Bool) → (cond t (done a) (refused (refusalFor s w h resp image))) .count
+          ≡ (cond t (done b) (refused (refusalFor s w h resp image))) .count
       go true = refl
       go false = refl
 
@@ -41,4 +42,6 @@ module _ (s : RadonDetectorParams) (w h : ℕ) (resp : List Float) (image : List
         (shorter stride (numbers s (value resp w)) (numbers-long s (value resp w)) (foundIn s w h resp image) short long (lit< tt) l)
 
     pub beyond : drop (writtenLength (length short)) (listOf s w h resp image short) ≡ drop (writtenLength (length short)) short
-    beyond = rw (accepted-list s w h resp image short accepted) (past stride (numbers s (value resp w)) (numbers-long s (value resp w)) (foundIn s w h resp image) short)
+    beyond =
+        rw (accepted-list s w h resp image short accepted)
+        (past stride (numbers s (value resp w)) (numbers-long s (value resp w)) (foundIn s w h resp image) short)
