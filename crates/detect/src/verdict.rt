@@ -11,15 +11,6 @@ ghost use Rattle.grid.specs.Rect.{place};
 ghost use Rattle.detect.specs.Corners.{bySaddle, isKept};
 ghost use Rattle.detect.specs.Scan.{Candidate, verdictIn};
 
-// What a scan goes by: the map's sides, the settings, the saddle numbers of their ray radius, and the floor.
-pub struct Scan {
-    pub w: usize,
-    pub h: usize,
-    pub params: RadonDetectorParams,
-    pub test: SaddleTest,
-    pub floor: f32,
-}
-
 pub enum Verdict {
     NotAbove,
     Beaten,
@@ -50,6 +41,15 @@ fn by_saddle(s: Saddle) -> Verdict
         Saddle::Flat => Verdict::TooFlat,
         Saddle::Curved => Verdict::WrongCurvature,
     }
+}
+
+// What a scan goes by: the map's sides, the settings, the saddle numbers of their ray radius, and the floor.
+pub struct Scan {
+    pub w: usize,
+    pub h: usize,
+    pub params: RadonDetectorParams,
+    pub test: SaddleTest,
+    pub floor: f32,
 }
 
 // The verdict on the candidate at (x, y).

@@ -3,6 +3,7 @@ use Prim.Native.Nat.{_-_}
 use Rattle.detect.specs.Crests.{crest, Passed}
 use Rattle.detect.proofs.Passing.{passed-none, passed-eight}
 use native.Mathlib.Omega.{arith}
+use borrow.Author.Needs.{needs}
 use Rattle.detect.proofs.crests.pass_flat_eights.Statement.{statement}
 use Rattle.detect.proofs.crests.pass_flat_eights.Tie as tie
 
@@ -22,7 +23,7 @@ any-crest-requires : tie.Need-any-crest-requires Inv-loop μ-loop
 any-crest-requires c κs = omega arith
 
 returns : tie.Need-returns Inv-loop μ-loop
-returns c = c .before .before .before .loop .inv
+returns c = search needs
 
 add-i : tie.Need-add-i Inv-loop μ-loop
 add-i c = omega arith
@@ -34,7 +35,7 @@ loop-again : tie.Need-loop-again Inv-loop μ-loop
 loop-again c = passed-eight _ _ _ (c .before .before .before .loop .inv) (omega arith) (c .before .any-crest .ensures) (c .if1 .left)
 
 returns-2 : tie.Need-returns-2 Inv-loop μ-loop
-returns-2 c = c .before .loop .inv
+returns-2 c = search needs
 
 pub pass-flat-eights-spec : {M : Type 1} → statement M
 pass-flat-eights-spec =
