@@ -1,8 +1,8 @@
 -- The list depends only on what map and image have inside W by H: two maps and two images that agree there have the same corners with the
 -- same numbers. Assumes nothing.
-use mathlib.Core.Path.{_≡_, refl, sym, ap, _∙_}
+use mathlib.Core.Path.{_≡_, ap, _∙_}
 use mathlib.Core.Bool.{Bool, not, _&&_}
-use mathlib.Core.List.{List, [], _∷_}
+use mathlib.Core.List.{List}
 use Prim.Native.Nat.{ℕ, _+_, _-_, _*_, _/_, _≤_, _<_}
 use native.Mathlib.Omega.{arith}
 use lib.ListN.{length, take}
@@ -12,7 +12,7 @@ use lib.Ieee.{Float, binary32, lt, mul, ofInt}
 use Rattle.float.specs.Values.{f0}
 use Rattle.grid.specs.Fold.{fold-ext}
 use Rattle.grid.specs.Plane.{plane, column-in, row-number-in}
-use Rattle.grid.specs.Each.{each, keep, any, count}
+use Rattle.grid.specs.Each.{each, keep, count}
 use Rattle.grid.specs.Rect.{Place, place, rect}
 use Rattle.grid.specs.Over.{over, written}
 use Rattle.grid.specs.All.{all, all-map, all-keep, all-take, all-rect, Between, InRect, each-same, keep-same, any-same, foldl-same}
@@ -20,7 +20,6 @@ use Rattle.params.specs.declared.RadonDetectorParams.{RadonDetectorParams}
 use Rattle.params.specs.Settings.{rayOf}
 use Rattle.detect.specs.declared.saddle.SaddleTest.{SaddleTest}
 use Rattle.detect.specs.declared.saddle.Sums.{Sums}
-use Rattle.detect.specs.declared.verdict.Verdict.{Verdict}
 use Rattle.detect.specs.Saddle.{side, disk, inDisk, offset, overDisk, added, around, noSums, sumsOf, saddleAt, saddleOf, judge}
 use Rattle.detect.specs.Maximum.{greater, maximum}
 use Rattle.detect.specs.Window.{at, window, same, beaten, positives}

@@ -16,7 +16,7 @@ use Rattle.float.specs.Values.{f0}
 use Rattle.grid.specs.Fold.{fold-ext}
 use Rattle.grid.specs.Plane.{plane, row-in}
 use Rattle.grid.specs.Each.{keep-none}
-use Rattle.grid.specs.Rect.{Place, place, rect, any-in, length-rect, Down, down-none, down-more, down-all}
+use Rattle.grid.specs.Rect.{Place, place, any-in, length-rect, Down, down-none, down-more, down-all}
 use Rattle.grid.specs.Rect.{Across, across-none, across-more, across-skip}
 use Rattle.grid.specs.Ways.{pixel, value}
 use Rattle.grid.specs.Over.{Listed, listed-none, Onward, onward-none, onward-no, onward-full, onward-put}
@@ -24,7 +24,6 @@ use Rattle.params.specs.declared.RadonDetectorParams.{RadonDetectorParams}
 use Rattle.params.specs.Settings.{rayOf}
 use Rattle.detect.specs.declared.saddle.SaddleTest.{SaddleTest}
 use Rattle.detect.specs.declared.saddle.Saddle.{Saddle}
-use Rattle.detect.specs.declared.saddle.Saddle.the-variants.{Flat}
 use Rattle.detect.specs.declared.verdict.Verdict.{Verdict}
 use Rattle.detect.specs.declared.verdict.Verdict.the-variants.{NotAbove, Beaten, TooFew}
 use Rattle.detect.specs.declared.verdict.Scan.{Scan}
@@ -34,7 +33,7 @@ use Rattle.detect.specs.Window.{at, beaten, positives}
 use Rattle.detect.specs.Crests.{over, crest, Reached}
 use Rattle.detect.specs.Corners.{candidates, floorOf, corners, firstFailing, bySaddle, isSaddle, isKept, verdict, stride, inputAt, numbers}
 use Rattle.detect.specs.Room.{Room, Cross}
-use Rattle.detect.specs.Scan.{scanOf, floorIn, verdictIn, keptIn, numbersIn, fitAround, cornersIn, borderIn, rowsAbove}
+use Rattle.detect.specs.Scan.{scanOf, floorIn, verdictIn, keptIn, numbersIn, fitAround, borderIn, rowsAbove}
 use Rattle.detect.specs.Scan.{Asked, Judging, Candidate, Finding, NextInRow, Entered, RowFound, Found}
 use Rattle.detect.proofs.Windows.{cross}
 

@@ -1,9 +1,9 @@
 -- `detect::crests::next_above` meets its contract. The invariant: no entry before i is above the floor. Assumes nothing.
 use mathlib.Core.Path.{refl}
 use Prim.Native.Nat.{_-_}
+use native.Mathlib.Omega.{arith}
 use Rattle.detect.specs.Crests.{over, Passed}
 use Rattle.detect.proofs.Passing.{passed-one, next-found, next-none}
-use native.Mathlib.Omega.{arith}
 use Rattle.detect.proofs.crests.next_above.Statement.{statement}
 use Rattle.detect.proofs.crests.next_above.Tie as tie
 

@@ -2,8 +2,8 @@
 use mathlib.Core.Path.{_≡_, sym}
 use lib.ListN.{length, take}
 use lib.Seq.{length-take-le}
-use Rattle.detect.proofs.Passing.{reached-crest, reached-above}
 use native.Mathlib.Omega.{arith}
+use Rattle.detect.proofs.Passing.{reached-crest, reached-above}
 use borrow.Author.Needs.{needs}
 use Rattle.detect.proofs.crests.next_candidate.Statement.{statement}
 use Rattle.detect.proofs.crests.next_candidate.Tie as tie

@@ -1,8 +1,8 @@
 -- `detect::crests::next_crest` meets its contract. The invariant: there is no crest before i. Assumes nothing.
 use Prim.Native.Nat.{_-_}
+use native.Mathlib.Omega.{arith}
 use Rattle.detect.specs.Crests.{crest, Passed}
 use Rattle.detect.proofs.Passing.{passed-one, next-found, next-none}
-use native.Mathlib.Omega.{arith}
 use Rattle.detect.proofs.crests.next_crest.Statement.{statement}
 use Rattle.detect.proofs.crests.next_crest.Tie as tie
 

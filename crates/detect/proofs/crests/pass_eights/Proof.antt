@@ -1,8 +1,8 @@
 -- `detect::crests::pass_eights` meets its contract. The invariant: no entry before i is above the floor. Assumes nothing.
 use Prim.Native.Nat.{_-_}
+use native.Mathlib.Omega.{arith}
 use Rattle.detect.specs.Crests.{over, Passed}
 use Rattle.detect.proofs.Passing.{passed-none, passed-eight}
-use native.Mathlib.Omega.{arith}
 use borrow.Author.Needs.{needs}
 use Rattle.detect.proofs.crests.pass_eights.Statement.{statement}
 use Rattle.detect.proofs.crests.pass_eights.Tie as tie

@@ -1,8 +1,8 @@
 -- `detect::crests::pass_flat_eights` meets its contract. The invariant: there is no crest before i. Assumes nothing.
 use Prim.Native.Nat.{_-_}
+use native.Mathlib.Omega.{arith}
 use Rattle.detect.specs.Crests.{crest, Passed}
 use Rattle.detect.proofs.Passing.{passed-none, passed-eight}
-use native.Mathlib.Omega.{arith}
 use borrow.Author.Needs.{needs}
 use Rattle.detect.proofs.crests.pass_flat_eights.Statement.{statement}
 use Rattle.detect.proofs.crests.pass_flat_eights.Tie as tie

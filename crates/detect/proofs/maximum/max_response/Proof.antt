@@ -1,8 +1,8 @@
 -- `detect::maximum::max_response` meets its contract. The invariant: of each quarter, the first i entries are folded. Assumes nothing.
 use Prim.Native.Nat.{_-_}
+use native.Mathlib.Omega.{arith}
 use Rattle.detect.specs.Maximum.{entry}
 use Rattle.detect.proofs.Greatest.{Quarters, quarters-none, quarters-eight, quarters-all}
-use native.Mathlib.Omega.{arith}
 use borrow.Author.Needs.{needs}
 use Rattle.detect.proofs.maximum.max_response.Statement.{statement}
 use Rattle.detect.proofs.maximum.max_response.Tie as tie

@@ -1,9 +1,9 @@
 -- `detect::maximum::raised` meets its contract. The invariant: the entries before i are folded. Assumes nothing.
 use mathlib.Core.Path.{refl}
 use Prim.Native.Nat.{_-_}
+use native.Mathlib.Omega.{arith}
 use Rattle.grid.specs.Fold.{Folding, folding-none, folding-more, folding-all}
 use Rattle.detect.specs.Maximum.{entry, greater}
-use native.Mathlib.Omega.{arith}
 use borrow.Author.Needs.{needs}
 use Rattle.detect.proofs.maximum.raised.Statement.{statement}
 use Rattle.detect.proofs.maximum.raised.Tie as tie

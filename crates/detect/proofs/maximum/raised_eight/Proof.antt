@@ -1,9 +1,9 @@
 -- `detect::maximum::raised_eight` meets its contract: where none of the eight is above m, they leave it as it is. Assumes nothing.
 use mathlib.Core.Path.{_≡_}
 use Prim.Native.Nat.{_+_, _-_}
+use native.Mathlib.Omega.{arith}
 use Rattle.detect.specs.Maximum.{entry}
 use Rattle.detect.proofs.Greatest.{eight-still}
-use native.Mathlib.Omega.{arith}
 use Rattle.detect.proofs.maximum.raised_eight.Statement.{statement}
 use Rattle.detect.proofs.maximum.raised_eight.Tie as tie
 

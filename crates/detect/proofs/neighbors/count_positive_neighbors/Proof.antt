@@ -1,11 +1,11 @@
 -- `detect::neighbors::count_positive_neighbors` meets its contract: the window's count, less the centre where that is above zero. Assumes nothing.
 use mathlib.Core.Path.{_≡_}
 use Prim.Native.Nat.{ℕ, _+_}
+use native.Mathlib.Omega.{arith}
 use Rattle.grid.specs.Rect.{place}
 use Rattle.grid.specs.Ways.{value}
 use Rattle.detect.specs.Window.{positives}
 use Rattle.detect.proofs.Windows.{positives-more, positives-same}
-use native.Mathlib.Omega.{arith}
 use borrow.Author.Needs.{needs}
 use Rattle.detect.proofs.neighbors.count_positive_neighbors.Statement.{statement}
 use Rattle.detect.proofs.neighbors.count_positive_neighbors.Tie as tie

@@ -1,7 +1,7 @@
 -- `detect::neighbors::is_local_max` meets its contract. The invariant: none of the rows passed has a greater value. Assumes nothing.
 use Prim.Native.Nat.{_-_}
-use Rattle.detect.proofs.Windows.{room-row, cross, FreeTo, free-none, free-more, beaten-near, beaten-row, unbeaten}
 use native.Mathlib.Omega.{arith}
+use Rattle.detect.proofs.Windows.{room-row, cross, FreeTo, free-none, free-more, beaten-near, beaten-row, unbeaten}
 use Rattle.detect.proofs.neighbors.is_local_max.Statement.{statement}
 use Rattle.detect.proofs.neighbors.is_local_max.Tie as tie
 

@@ -1,6 +1,6 @@
 -- `detect::neighbors::near_beats` meets its contract: the four places lie in the map. Assumes nothing.
-use Rattle.detect.proofs.Windows.{nearest-at}
 use native.Mathlib.Omega.{arith}
+use Rattle.detect.proofs.Windows.{nearest-at}
 use Rattle.detect.proofs.neighbors.near_beats.Statement.{statement}
 use Rattle.detect.proofs.neighbors.near_beats.Tie as tie
 

@@ -3,11 +3,11 @@ use mathlib.Core.Path.{_≡_}
 use Prim.Native.Nat.{_-_, _≤_}
 use lib.ListN.{length}
 use mathlib.Core.Logic.{inl, inr}
+use native.Mathlib.Omega.{arith}
 use Rattle.float.specs.Values.{f0}
 use Rattle.grid.specs.Each.{count, count-none, count-yes, count-no}
 use Rattle.grid.specs.Rect.{range, range-none, range-more}
 use Rattle.detect.specs.Crests.{over}
-use native.Mathlib.Omega.{arith}
 use Rattle.detect.proofs.neighbors.positive_in.Statement.{statement}
 use Rattle.detect.proofs.neighbors.positive_in.Tie as tie
 

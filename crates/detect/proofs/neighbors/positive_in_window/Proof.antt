@@ -1,7 +1,7 @@
 -- `detect::neighbors::positive_in_window` meets its contract. The invariant counts the rows passed whole. Assumes nothing.
 use Prim.Native.Nat.{_-_}
-use Rattle.detect.proofs.Windows.{room-row, part-length, CountTo, count-none-yet, count-row, count-rows}
 use native.Mathlib.Omega.{arith}
+use Rattle.detect.proofs.Windows.{room-row, part-length, CountTo, count-none-yet, count-row, count-rows}
 use Rattle.detect.proofs.neighbors.positive_in_window.Statement.{statement}
 use Rattle.detect.proofs.neighbors.positive_in_window.Tie as tie
 

@@ -1,8 +1,8 @@
 -- `detect::peaks::find_in_row` meets its contract. The invariant is `Scanned`: what the row has, up to the place where the search stands.
 -- Assumes nothing.
 use Prim.Native.Nat.{_-_}
-use Rattle.detect.proofs.Scanning.{Scanned, scan-none, scan-on, scan-turn, scan-all, candidate, nearer}
 use native.Mathlib.Omega.{arith}
+use Rattle.detect.proofs.Scanning.{Scanned, scan-none, scan-on, scan-turn, scan-all, candidate, nearer}
 use borrow.Author.Needs.{needs}
 use Rattle.detect.proofs.peaks.find_in_row.Statement.{statement}
 use Rattle.detect.proofs.peaks.find_in_row.Tie as tie

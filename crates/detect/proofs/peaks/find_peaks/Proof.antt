@@ -1,8 +1,8 @@
 -- `detect::peaks::find_peaks` meets its contract. The invariant is `FoundTo`: what is found in the rows above. Assumes nothing.
 use Prim.Native.Nat.{_-_}
 use mathlib.Core.Logic.{inl, inr}
-use Rattle.detect.proofs.Scanning.{FoundTo, found-none, found-more, found-all, none-found, finding}
 use native.Mathlib.Omega.{arith}
+use Rattle.detect.proofs.Scanning.{FoundTo, found-none, found-more, found-all, none-found, finding}
 use borrow.Author.Needs.{needs}
 use Rattle.detect.proofs.peaks.find_peaks.Statement.{statement}
 use Rattle.detect.proofs.peaks.find_peaks.Tie as tie

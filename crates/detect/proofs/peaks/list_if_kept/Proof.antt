@@ -2,8 +2,8 @@
 use mathlib.Core.Path.{_∙_}
 use mathlib.Core.Logic.{inl, inr}
 use mathlib.Core.List.{[]}
-use Rattle.detect.proofs.Scanning.{near, entered-no, entered-full, entered-put}
 use native.Mathlib.Omega.{arith}
+use Rattle.detect.proofs.Scanning.{near, entered-no, entered-full, entered-put}
 use borrow.Author.Needs.{needs}
 use Rattle.detect.proofs.peaks.list_if_kept.Statement.{statement}
 use Rattle.detect.proofs.peaks.list_if_kept.Tie as tie

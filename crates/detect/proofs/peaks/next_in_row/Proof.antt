@@ -1,7 +1,7 @@
 -- `detect::peaks::next_in_row` meets its contract: what the search passes over is not kept. Assumes nothing.
 use mathlib.Core.Path.{refl}
-use Rattle.detect.proofs.Scanning.{row-length, next-is}
 use native.Mathlib.Omega.{arith}
+use Rattle.detect.proofs.Scanning.{row-length, next-is}
 use borrow.Author.Needs.{needs}
 use Rattle.detect.proofs.peaks.next_in_row.Statement.{statement}
 use Rattle.detect.proofs.peaks.next_in_row.Tie as tie

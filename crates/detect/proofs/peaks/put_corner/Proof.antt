@@ -1,6 +1,6 @@
 -- `detect::peaks::put_corner` meets its contract: what is stored are the corner's numbers. Assumes nothing.
-use Rattle.detect.proofs.Scanning.{stored}
 use native.Mathlib.Omega.{arith}
+use Rattle.detect.proofs.Scanning.{stored}
 use Rattle.detect.proofs.peaks.put_corner.Statement.{statement}
 use Rattle.detect.proofs.peaks.put_corner.Tie as tie
 

@@ -2,8 +2,8 @@
 -- Assumes nothing.
 use mathlib.Core.Path.{sym}
 use lib.Seq.{length-take-le}
-use Rattle.detect.proofs.Scanning.{scan-is}
 use native.Mathlib.Omega.{arith}
+use Rattle.detect.proofs.Scanning.{scan-is}
 use borrow.Author.Needs.{needs}
 use Rattle.detect.proofs.peaks.scan_of.Statement.{statement}
 use Rattle.detect.proofs.peaks.scan_of.Tie as tie

@@ -1,7 +1,7 @@
 -- `detect::verdict::judge_at` meets its contract: each answer is the first rule that fails, from what the callees ensure. Assumes nothing.
 use mathlib.Core.Path.{refl}
-use Rattle.detect.proofs.Scanning.{window-room, not-above, is-beaten, too-few, as-saddle}
 use native.Mathlib.Omega.{arith}
+use Rattle.detect.proofs.Scanning.{window-room, not-above, is-beaten, too-few, as-saddle}
 use borrow.Author.Needs.{needs}
 use Rattle.detect.proofs.verdict.judge_at.Statement.{statement}
 use Rattle.detect.proofs.verdict.judge_at.Tie as tie
