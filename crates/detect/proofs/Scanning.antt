@@ -252,7 +252,7 @@ module _ {s : Scan} {resp : List Float} {image : List ℕ} {y : ℕ} {mid : List
           few = omega arith;
         }
 
-    pub candidate : x < s .w - b → Candidate s x y (length resp) (length image) × (n ≤ 67108864)
+    pub candidate : x < s .w - b → Candidate s x y (length resp) (length image) × (n ≤ 8192 * 8192)
     candidate l = (
       record { judging = f .judging; left = c .across .least; right = omega arith; above = f .above; below = f .below; row = f .row },
       omega (arith, f .few, f .judging .asked),

@@ -85,7 +85,7 @@ fn list_if_kept(
     n: usize,
     list: &mut [f32],
 ) -> usize
-    requires { ⌜ Candidate scan x y (length (now resp)) (length (now image)) × (n ≤ 67108864) ⌝ }
+    requires { ⌜ Candidate scan x y (length (now resp)) (length (now image)) × (n ≤ 8192 * 8192) ⌝ }
     ensures { λ r. ⌜ Entered scan (now (resp .entry)) (now (image .entry)) x y (now (list .entry)) n (now (list .exit)) r ⌝ }
 {
     if is_kept(judge_at(resp, image, scan, x, y)) {

@@ -65,8 +65,9 @@ scan-of-requires c κs = (asked c .response, asked c .ray)
 
 find-peaks-requires : tie.Need-find-peaks-requires
 find-peaks-requires c κs =
-    let o = start (c .before .before .before .before) .args in
-    judging (o .params) (o .w) (o .h) (o .response .now) (o .image .now) (c .before .scan-of .ensures) (asked (c .before .before))
+    let t = c .before .before in
+    let o = start (t .before .before) .args in
+    judging (o .params) (o .w) (o .h) (o .response .now) (o .image .now) (c .before .scan-of .ensures) (asked t)
 
 lesser-requires-2 : tie.Need-lesser-requires-2
 lesser-requires-2 c κs = search needs

@@ -50,21 +50,20 @@ add-is-crest-7 c = search needs
 is-crest-requires-8 : tie.Need-is-crest-requires-8
 is-crest-requires-8 c κs = search needs
 
--- the eight calls, from the last back
-abbrev fourth : tie.After-is-crest8 → tie.After-is-crest5
-fourth c = c .before .before .before
+-- from the eighth call back to the fourth, and from that to the start
+abbrev half : tie.After-is-crest8 → tie.After-is-crest4
+half c = c .before .before .before .before
 
-abbrev start : tie.After-is-crest → tie.Start
-start c = c .before .before
+abbrev start : tie.After-is-crest4 → tie.Start
+start c = c .before .before .before .before .before
 
 returns : tie.Need-returns
 returns c =
-    let b = fourth c in
-    let a = b .before .before .before .before in
+    let a = half c in
     let o = start a .args in
     eight-is (crest (o .floor) (o .s .now)) (o .i)
-    (a .is-crest .ensures) (b .before .before .before .is-crest2 .ensures) (b .before .before .is-crest3 .ensures) (b .before .is-crest4 .ensures)
-    (b .is-crest5 .ensures) (c .before .before .is-crest6 .ensures) (c .before .is-crest7 .ensures) (c .is-crest8 .ensures)
+    (a .before .before .before .is-crest .ensures) (a .before .before .is-crest2 .ensures) (a .before .is-crest3 .ensures) (a .is-crest4 .ensures)
+    (c .before .before .before .is-crest5 .ensures) (c .before .before .is-crest6 .ensures) (c .before .is-crest7 .ensures) (c .is-crest8 .ensures)
 
 pub eight-crests-spec : {M : Type 1} → statement M
 eight-crests-spec =
