@@ -34,7 +34,7 @@ use Rattle.response.specs.Runs.{Runs, runs-of}
 use Rattle.response.specs.Map.{Buffers as MapBuffers, answered as map-answered, buffersOf as map-buffersOf, mappedOf, mappedBy, workOf, mapOf, sideOf, roomOf}
 use Rattle.response.specs.MapFacts.{map-range}
 use Rattle.response.proofs.Places.{map-fits}
-use Rattle.detect.specs.Window.{value}
+use Rattle.grid.specs.Ways.{value}
 use Rattle.detect.specs.Corners.{corners, numbers, stride}
 use Rattle.detect.proofs.Inside.{corners-same}
 use Rattle.detect.proofs.Places.{Inner, corners-inner}

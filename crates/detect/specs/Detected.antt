@@ -5,7 +5,7 @@ use mathlib.Core.List.{List}
 use lib.ListN.{length}
 use lib.Dec.{ltb, leb, eqb}
 use lib.Ieee.{Float}
-use Rattle.grid.specs.Ways.{pixel}
+use Rattle.grid.specs.Ways.{pixel, value}
 use Rattle.grid.specs.Rect.{Place}
 use Rattle.grid.specs.Over.{written}
 use Rattle.params.specs.declared.answers.Answer.{Answer}
@@ -13,8 +13,7 @@ use Rattle.params.specs.declared.answers.Answer.the-variants.{Complete, ListFul
 use Rattle.params.specs.declared.answers.Outcome.{Outcome}
 use Rattle.params.specs.declared.settings.RadonDetectorParams.{RadonDetectorParams}
 use Rattle.params.specs.Answers.{numberOf, refused}
-use Rattle.params.specs.Refusals.{orElse, mapRefusal, listRefusal, roomRefusal}
-use Rattle.detect.specs.Window.{value}
+use Rattle.params.specs.Refusals.{pick, orElse, mapRefusal, listRefusal, roomRefusal}
 use Rattle.detect.specs.Corners.{corners, numbers, stride}
 
 -- 2 a working side over 8,192, twice the input's 4,096; 4 W·H over 8,388,608
@@ -41,9 +40,9 @@ abbrev pub fullOr : ℕ → ℕ → Answer
 fullOr found room = cond (leb found room) Complete ListFull
 
 -- the answer, with "found" as its count; "its room is its length divided by three, rounded down"
-unfoldable pub outcomeOf : RadonDetectorParams → ℕ → ℕ → List Float → List ℕ → ℕ → Outcome
+unfoldable pub peaksOutcome : RadonDetectorParams → ℕ → ℕ → List Float → List ℕ → ℕ → Outcome
 unfolding peaksRefusal
-outcomeOf s w h resp image len =
+peaksOutcome s w h resp image len =
     cond (eqb (numberOf (refusalFor s w h resp image)) 0)
     (record { answer = fullOr (length (foundIn s w h resp image)) (len / stride); count = length (foundIn s w h resp image); w = w; h = h })
     (refused (refusalFor s w h resp image))

@@ -6,6 +6,7 @@ use native.Mathlib.Nat.{le-trans, mul-le-mul-left}
 use native.Mathlib.Omega.{arith}
 use mathlib.Core.List.{List}
 use lib.ListN.{length, getD}
+use lib.Ieee.{Float, nan}
 use Rattle.grid.specs.Fill.{filled}
 use Rattle.grid.specs.Plane.{plane, getD-plane, pixel-in}
 use Rattle.grid.specs.Fold.{sumTo, sum-one, sum-split, sum-back, sum-most, sum-raised, fold-none, fold-ext}
@@ -13,6 +14,10 @@ use Rattle.grid.specs.Fold.{sumTo, sum-one, sum-split, sum-back, sum-mos
 -- what a buffer w wide has at column x of row y
 abbrev pub pixel : List ℕ → ℕ → ℕ → ℕ → ℕ
 pixel img w x y = getD img (y * w + x) 0
+
+-- the same of a map of floats
+abbrev pub value : List Float → ℕ → ℕ → ℕ → Float
+value s w x y = getD s (y * w + x) nan
 
 -- along a row, down a column, along a diagonal that falls to the right, along one that rises to the right
 pub data Way : Type 0 where

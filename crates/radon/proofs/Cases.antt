@@ -21,9 +21,9 @@ use Rattle.params.proofs.Accepted.{both-pass, sizes-pass}
 use Rattle.response.specs.declared.Mapped.{Mapped}
 use Rattle.response.specs.Map.{Buffers as MapBuffers, roomOf, sideOf, workOf, mapOf, mapped, mappedBy, mappedOf, buffersOf as mapBuffersOf}
 use Rattle.response.specs.Runs.{Runs, runs-of, side-most}
-use Rattle.detect.specs.Window.{value}
+use Rattle.grid.specs.Ways.{value}
 use Rattle.detect.specs.Corners.{numbers, stride}
-use Rattle.detect.specs.Detected.{workingRefusal, peaksRefusal, foundIn, outcomeOf as peaksOutcome, listOf}
+use Rattle.detect.specs.Detected.{workingRefusal, peaksRefusal, foundIn, peaksOutcome, listOf}
 use Rattle.detect.proofs.Inside.{corners-same, list-same}
 use Rattle.radon.specs.Finder.{Buffers, answered, found, outcomeOf, buffersOf}
 

@@ -28,7 +28,7 @@ use Rattle.response.specs.Response.{raySpread}
 use Rattle.response.specs.MapFacts.{SameWritten, same-written}
 use Rattle.response.proofs.Places.{work-doubled, work-copied, raw-squared, raw-border, unblurred, map-fits}
 use Rattle.response.proofs.Beyond.{Stays, stays}
-use Rattle.detect.specs.Above.{entry}
+use Rattle.detect.specs.Maximum.{entry}
 use Rattle.detect.specs.Corners.{stride}
 use Rattle.detect.proofs.HigherSettings.{raised}
 use Rattle.detect.proofs.Places.{OnFrame}

@@ -24,7 +24,7 @@ use Rattle.params.specs.Answers.{numberOf}
 use Rattle.response.specs.Map.{Buffers as MapBuffers, sideOf, workOf, mapOf, mapped, mappedBy}
 use Rattle.response.specs.Runs.{Runs}
 use Rattle.response.specs.MapFacts.{raised-frame, map-range}
-use Rattle.detect.specs.Window.{value}
+use Rattle.grid.specs.Ways.{value}
 use Rattle.detect.specs.Corners.{numbers, stride}
 use Rattle.radon.specs.Finder.{Buffers, answered, found, buffersOf}
 use Rattle.radon.proofs.Cases.{runs-by, map-at, work-at}

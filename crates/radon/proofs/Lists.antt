@@ -27,7 +27,7 @@ use Rattle.response.specs.Map.{roomOf, sideOf, mapOf}
 use Rattle.response.specs.MapFacts.{SameWritten, same-written, map-number}
 use Rattle.response.specs.Runs.{Runs}
 use Rattle.detect.specs.Window.{at}
-use Rattle.detect.specs.Above.{entry}
+use Rattle.detect.specs.Maximum.{entry}
 use Rattle.detect.specs.Corners.{corners, numbers, stride}
 use Rattle.detect.specs.Detected.{fullOr}
 use Rattle.detect.proofs.Scanning.{numbers-long}

@@ -22,9 +22,10 @@ use Rattle.response.specs.Response.{raySpread, square, responseAt}
 use Rattle.response.specs.Blur.{blurAt}
 use Rattle.response.specs.Map.{rawAt, mapAt, sideOf, mapOf}
 use Rattle.detect.specs.Window.{beaten, positives}
-use Rattle.saddle.specs.Saddle.{saddleOf, saddleAt, disk}
-use Rattle.peak_fit.specs.PeakFit.{fitOf}
-use Rattle.detect.specs.Corners.{corners, verdict, floorOf, peak, inputAt, numbers}
+use Rattle.detect.specs.Saddle.{saddleOf, saddleAt, disk}
+use Rattle.detect.specs.PeakFit.{fitOf}
+use Rattle.detect.specs.Maximum.{maximum}
+use Rattle.detect.specs.Corners.{corners, verdict, floorOf, inputAt, numbers}
 use Rattle.radon.specs.Finder.{found}
 use Rattle.radon.proofs.TableP.{frame}
 
@@ -89,7 +90,7 @@ stated =
 
 pub Run : computed ≡ stated
 unfolding refusalOf sizeRefusal mapRefusal listRefusal roomRefusal isNan
-    found corners verdict floorOf peak plane fold beaten positives any count keep each rect line range from
+    found corners verdict floorOf maximum plane fold beaten positives any count keep each rect line range from
     mapAt rawAt workAt blurAt responseAt square raySpread ray frame
     saddleAt saddleOf disk rootOf numbers inputAt toInput fitOf
     ofBits toBits ofInt add sub mul div le lt round units odd size span climb

@@ -12,7 +12,7 @@ use Rattle.params.specs.declared.answers.Outcome.{Outcome}
 use Rattle.params.specs.Settings.{defaults}
 use Rattle.params.specs.Answers.{numberOf, refused}
 use Rattle.response.specs.declared.Mapped.{Mapped}
-use Rattle.detect.specs.Detected.{outcomeOf as peaksOutcome, listOf}
+use Rattle.detect.specs.Detected.{peaksOutcome, listOf}
 use Rattle.radon.specs.Finder.{Buffers, outcomeOf, buffersOf}
 use Rattle.steyrbunk.specs.declared.Settings.{Settings}
 use Rattle.steyrbunk.specs.declared.Settings.the-variants.{Given, NoSuchMode}
