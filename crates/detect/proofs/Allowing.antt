@@ -8,13 +8,13 @@ use mathlib.Core.List.{List}
 use lib.ListN.{length}
 use lib.Dec.{ltb, leb, eqb}
 use lib.Ieee.{Float}
-use Rattle.params.specs.declared.Answer.{Answer}
-use Rattle.params.specs.declared.Answer.the-variants.{Complete, ListFull, SideTooLong, TooManyPixels}
-use Rattle.params.specs.declared.Outcome.{Outcome}
-use Rattle.params.specs.declared.RadonDetectorParams.{RadonDetectorParams}
+use Rattle.params.specs.declared.answers.Answer.{Answer}
+use Rattle.params.specs.declared.answers.Answer.the-variants.{Complete, ListFull, SideTooLong, TooManyPixels}
+use Rattle.params.specs.declared.answers.Outcome.{Outcome}
+use Rattle.params.specs.declared.settings.RadonDetectorParams.{RadonDetectorParams}
 use Rattle.params.specs.Answers.{numberOf, refused}
 use Rattle.params.specs.Refusals.{pick, orElse, mapRefusal, listRefusal, roomRefusal}
-use Rattle.params.specs.Accepted.{both-pass, map-passes, list-passes, room-passes}
+use Rattle.params.proofs.Accepted.{both-pass, map-passes, list-passes, room-passes}
 use Rattle.detect.specs.declared.verdict.Scan.{Scan}
 use Rattle.detect.specs.Corners.{stride}
 use Rattle.detect.specs.Detected.{workingRefusal, peaksRefusal, refusalFor, fullOr, peaksOutcome, listOf}

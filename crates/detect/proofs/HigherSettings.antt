@@ -16,10 +16,10 @@ use Rattle.grid.specs.Each.{each, keep, keep-keep, keep-ext, count, count-most}
 use Rattle.grid.specs.Rect.{Place}
 use Rattle.grid.specs.Over.{written, opening}
 use Rattle.grid.specs.Ways.{pixel, value}
-use Rattle.params.specs.declared.RadonDetectorParams.{RadonDetectorParams}
+use Rattle.params.specs.declared.settings.RadonDetectorParams.{RadonDetectorParams}
 use Rattle.params.specs.Answers.{numberOf}
 use Rattle.params.specs.Refusals.{listRefusal, mapRefusal}
-use Rattle.params.specs.Accepted.{ListPasses, both-pass, list-passes}
+use Rattle.params.proofs.Accepted.{ListPasses, both-pass, list-passes}
 use Rattle.detect.specs.declared.saddle.Saddle.{Saddle}
 use Rattle.detect.specs.declared.saddle.Saddle.the-variants.{Yes, Flat, Curved}
 use Rattle.detect.specs.Window.{at, beaten, positives}

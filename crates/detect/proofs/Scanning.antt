@@ -20,7 +20,7 @@ use Rattle.grid.specs.Rect.{Place, place, any-in, length-rect, Down, down-none,
 use Rattle.grid.specs.Rect.{Across, across-none, across-more, across-skip}
 use Rattle.grid.specs.Ways.{pixel, value}
 use Rattle.grid.specs.Over.{Listed, listed-none, Onward, onward-none, onward-no, onward-full, onward-put}
-use Rattle.params.specs.declared.RadonDetectorParams.{RadonDetectorParams}
+use Rattle.params.specs.declared.settings.RadonDetectorParams.{RadonDetectorParams}
 use Rattle.params.specs.Settings.{rayOf}
 use Rattle.saddle.specs.declared.SaddleTest.{SaddleTest}
 use Rattle.saddle.specs.declared.Saddle.{Saddle}

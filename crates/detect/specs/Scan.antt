@@ -8,8 +8,8 @@ use lib.Ieee.{Float}
 use Rattle.grid.specs.Rect.{Place, place, rect}
 use Rattle.grid.specs.Ways.{pixel, value}
 use Rattle.grid.specs.Over.{written, Onward}
-use Rattle.params.specs.declared.PeakFitMode.{PeakFitMode}
-use Rattle.params.specs.declared.RadonDetectorParams.{RadonDetectorParams}
+use Rattle.params.specs.declared.settings.PeakFitMode.{PeakFitMode}
+use Rattle.params.specs.declared.settings.RadonDetectorParams.{RadonDetectorParams}
 use Rattle.params.specs.Settings.{rayOf}
 use Rattle.detect.specs.declared.verdict.Verdict.{Verdict}
 use Rattle.detect.specs.declared.verdict.Scan.{Scan}
