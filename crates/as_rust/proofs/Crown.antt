@@ -31,7 +31,7 @@ use Rattle.scalar.specs.Log.{logOf, terms, high, lowest, highest, difference, u
 use Rattle.scalar.specs.declared.Log.the-variants.{Value}
 use Rattle.scalar.proofs.Facts.{log-inside}
 use Rattle.response.specs.Runs.{Runs, runs-of}
-use Rattle.response.specs.Map.{Buffers as MapBuffers, answered as map-answered, buffersOf as map-buffersOf, mappedOf, mappedBy, workOf, mapOf, sideOf, roomOf}
+use Rattle.response.specs.Map.{Buffers as MapBuffers, answered as map-answered, mapBuffersOf, mappedOf, mappedBy, workOf, mapOf, sideOf, roomOf}
 use Rattle.response.specs.MapFacts.{map-range}
 use Rattle.response.proofs.Places.{map-fits}
 use Rattle.detect.specs.Window.{value}
@@ -102,8 +102,8 @@ written-each {A} {B} k f l old = ap (λ (r : List B). over r old) (sym same)
 module _ (m : Machine) (img : List ℕ) (w h : ℕ) (p : RadonDetectorParams) (small : Bytes img) (rust : RadonBuffers) where
   -- `radon_response_u8`: working image, tables, response and scratch are those of the Rust's text
   pub map-is-the-rusts : (b : MapBuffers) → numberOf (map-answered img w h p b) ≡ 0
-      → SameMap (sideOf w p) (sideOf h p) (p .«response_blur_radius») (map-buffersOf img w h p b) (radon-response-u8 m img w h p rust)
-  unfolding map-buffersOf
+      → SameMap (sideOf w p) (sideOf h p) (p .«response_blur_radius») (mapBuffersOf img w h p b) (radon-response-u8 m img w h p rust)
+  unfolding mapBuffersOf
   map-is-the-rusts b z =
       rw (eq-eqb (numberOf (map-answered img w h p b)) 0 z)
       (map-as-rust m img w h p b small (runs-of w h p (length img) b refl refl refl z)

@@ -19,7 +19,7 @@ use Rattle.params.specs.Answers.{numberOf, refused}
 use Rattle.params.specs.Refusals.{orElse, sizeRefusal, mapRefusal, listRefusal, roomRefusal, pixelsOf, refusalOf, mapRefusalOf}
 use Rattle.params.specs.Accepted.{both-pass, sizes-pass}
 use Rattle.response.specs.declared.Mapped.{Mapped}
-use Rattle.response.specs.Map.{Buffers as MapBuffers, roomOf, sideOf, workOf, mapOf, mapped, mappedBy, mappedOf, buffersOf as mapBuffersOf}
+use Rattle.response.specs.Map.{Buffers as MapBuffers, roomOf, sideOf, workOf, mapOf, mapped, mappedBy, mappedOf, mapBuffersOf}
 use Rattle.response.specs.Runs.{Runs, runs-of, side-most}
 use Rattle.detect.specs.Window.{value}
 use Rattle.detect.specs.Corners.{numbers, stride}

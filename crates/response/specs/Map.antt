@@ -98,5 +98,5 @@ mappedOf img w h p b =
     (record { answer = answered img w h p b; w = 0; h = 0 })
 
 -- the buffers at the end: "no buffer changes" with a refusal
-unfoldable pub buffersOf : List ℕ → ℕ → ℕ → RadonDetectorParams → Buffers → Buffers
-buffersOf img w h p b = chosen (accepts (answered img w h p b)) (mapped (pixel img w) w h p b) b
+unfoldable pub mapBuffersOf : List ℕ → ℕ → ℕ → RadonDetectorParams → Buffers → Buffers
+mapBuffersOf img w h p b = chosen (accepts (answered img w h p b)) (mapped (pixel img w) w h p b) b

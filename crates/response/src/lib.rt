@@ -8,7 +8,7 @@ ghost use mathlib.Core.Path.{_≡_};
 ghost use Prim.Native.Nat.{_*_, _≤_, min};
 ghost use lib.ListN.{length};
 ghost use Rattle.grid.specs.Ways.{pixel};
-ghost use Rattle.response.specs.Map.{Buffers, mappedBy, mappedOf, buffersOf};
+ghost use Rattle.response.specs.Map.{Buffers, mappedBy, mappedOf, mapBuffersOf};
 ghost use Rattle.response.specs.Runs.{Runs};
 use params::Answer;
 use params::RadonDetectorParams;
@@ -110,7 +110,7 @@ pub fn radon_response_u8(
       response = now (response .exit);
       scratch = now (scratch .exit);
     })
-        (buffersOf (now (img .entry)) w h p (record {
+        (mapBuffersOf (now (img .entry)) w h p (record {
           working = now (working .entry);
           row = now (row .entry);
           col = now (col .entry);

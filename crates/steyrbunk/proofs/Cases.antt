@@ -11,7 +11,7 @@ use Rattle.params.specs.Answers.{numberOf, refused}
 use Rattle.detect.specs.Detected.{outcomeOf as peaksOutcome, listOf}
 use Rattle.radon.specs.Finder.{Buffers, outcomeOf, buffersOf}
 use Rattle.response.specs.declared.Mapped.{Mapped}
-use Rattle.response.specs.Map.{Buffers as MapBuffers, mappedOf, buffersOf as mapBuffersOf}
+use Rattle.response.specs.Map.{Buffers as MapBuffers, mappedOf, mapBuffersOf}
 use Rattle.steyrbunk.specs.declared.Settings.{Settings}
 use Rattle.steyrbunk.specs.declared.Settings.the-variants.{Given, NoSuchMode}
 use Rattle.steyrbunk.specs.Called.{Told, told, MapTold, mapTold, foundBy, leftBy, peaksBy, listBy}

@@ -4,7 +4,7 @@ use mathlib.Core.List.{List}
 use Prim.Native.Nat.{ℕ}
 use Rattle.params.specs.declared.RadonDetectorParams.{RadonDetectorParams}
 use Rattle.params.specs.Refusals.{mapRefusal, mapRefusalOf}
-use Rattle.response.specs.Map.{Buffers, mappedOf, buffersOf}
+use Rattle.response.specs.Map.{Buffers, mappedOf, mapBuffersOf}
 use Rattle.steyrbunk.specs.Called.{mapSettings}
 
 module _ (img : List ℕ) (w h : ℕ) (b : Buffers) (p : RadonDetectorParams) where
@@ -15,6 +15,6 @@ module _ (img : List ℕ) (w h : ℕ) (b : Buffers) (p : RadonDetectorParams) wh
   unfolding mappedOf mapRefusalOf mapRefusal
   others-unreported = refl
 
-  pub others-unwritten : buffersOf img w h p b ≡ buffersOf img w h only b
-  unfolding buffersOf mapRefusalOf mapRefusal
+  pub others-unwritten : mapBuffersOf img w h p b ≡ mapBuffersOf img w h only b
+  unfolding mapBuffersOf mapRefusalOf mapRefusal
   others-unwritten = refl

@@ -4,7 +4,7 @@ ghost use mathlib.Core.Path.{_≡_};
 ghost use lib.ListN.{length};
 ghost use lib.Dec.{eqb};
 ghost use Rattle.radon.specs.Finder.{Buffers};
-ghost use Rattle.response.specs.Map.{Buffers as MapBuffers, mappedOf, buffersOf};
+ghost use Rattle.response.specs.Map.{Buffers as MapBuffers, mappedOf, mapBuffersOf};
 ghost use Rattle.params.specs.Answers.{numberOf};
 ghost use Rattle.steyrbunk.specs.Called.{modeOf, settingsOf, mapSettings, Told, told, MapTold, mapTold, foundBy, leftBy, peaksBy, listBy};
 use params::Answer;
@@ -200,7 +200,7 @@ pub extern "C" fn steyrbunk_response(
       response = now (response .exit);
       scratch = now (scratch .exit);
     })
-        (buffersOf (now (image .entry)) width height (mapSettings ray up blur) (record {
+        (mapBuffersOf (now (image .entry)) width height (mapSettings ray up blur) (record {
           working = now (working .entry);
           row = now (row .entry);
           col = now (col .entry);
