@@ -44,7 +44,13 @@ pub record Buffers : Type 0 where
 -- in the order in which they are lent
 abbrev pub mapLent : List ℕ → List ℕ → List ℕ → List ℕ → List ℕ → List Float → List Float → Buffers
 mapLent working row col pos neg response scratch = record {
-  working = working; row = row; col = col; pos = pos; neg = neg; response = response; scratch = scratch;
+  working = working;
+  row = row;
+  col = col;
+  pos = pos;
+  neg = neg;
+  response = response;
+  scratch = scratch;
 }
 
 -- the length of the shortest
