@@ -62,8 +62,8 @@ pub sums-most : (d : Way) (f : ℕ → ℕ → ℕ) (top side w h : ℕ) (xs : L
     → (k : ℕ) → k < y * w + x → getD ys k 0 ≤ top * side
 unfolding plane
 sums-most d f top side w h xs {ys} {y} {x} r m u v room k b =
-    let l : k < w * h = omega (arith, r .room, r .most) in
-    let e : getD ys k 0 ≡ plane w (runSum d f w) k = rw (r .fill) (getD-filled (y * w + x) _ xs k 0 b (omega arith)) in
+    let l : k < w * h = omega (arith, r .room, r .steps .most) in
+    let e : getD ys k 0 ≡ plane w (runSum d f w) k = rw (r .steps .fill) (getD-filled (y * w + x) _ xs k 0 b (omega arith)) in
     rw e (run-most d f top side w _ _ m (omega (arith, column-in w h l)) (omega (arith, row-number-in w h l)))
 
 -- ---- a sum that is carried along a line: acc is what the line has before x and y
