@@ -13,14 +13,17 @@ use lib.ListN.{length, getD, take, length-take}
 use lib.Seq.{getD-take}
 use lib.IntN.{pos}
 use lib.Ieee.{Float, nan, binary32, ofBits, toBits, le, lt}
-use Rattle.float.specs.Order.{lt-itself}
-use Rattle.grid.specs.Fill.{filled, getD-filled, length-filled}
-use Rattle.grid.specs.Plane.{plane, getD-plane, pixel-in, column-in, row-number-in}
+use Rattle.float.proofs.Order.{lt-itself}
+use Rattle.grid.specs.Fill.{filled}
+use Rattle.grid.proofs.Fill.{getD-filled, length-filled}
+use Rattle.grid.specs.Plane.{plane}
+use Rattle.grid.proofs.Plane.{getD-plane, pixel-in, column-in, row-number-in}
 use Rattle.grid.specs.Ways.{pixel}
-use Rattle.grid.specs.Each.{each, each-each, each-ext, each-one, take-each, length-each}
+use Rattle.grid.specs.Each.{each}
+use Rattle.grid.proofs.Each.{each-each, each-ext, each-one, take-each, length-each}
 use Rattle.grid.specs.Rect.{Place}
 use Rattle.grid.specs.Over.{over, written}
-use Rattle.grid.specs.All.{all-map, each-same}
+use Rattle.grid.proofs.All.{all-map, each-same}
 use Rattle.params.specs.declared.RadonDetectorParams.{RadonDetectorParams}
 use Rattle.params.specs.declared.PeakFitMode.{PeakFitMode}
 use Rattle.params.specs.declared.PeakFitMode.the-variants.{Parabolic, Gaussian}

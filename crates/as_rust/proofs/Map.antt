@@ -11,9 +11,12 @@ use lib.Dec.{ltb, leb}
 use lib.ListN.{length, getD, take, List·getD-eq-default}
 use lib.IntN.{ℤ, pos}
 use lib.Ieee.{Float, nan}
-use Rattle.grid.specs.Fill.{filled, filled-intro, getD-filled, length-filled, filled-filled}
-use Rattle.grid.specs.Plane.{plane, plane-ext, getD-plane, pixel-in}
-use Rattle.grid.specs.Ways.{Way, along, down, fall, rise, pixel, runSum, run-ext}
+use Rattle.grid.specs.Fill.{filled}
+use Rattle.grid.proofs.Fill.{filled-intro, getD-filled, length-filled, filled-filled}
+use Rattle.grid.specs.Plane.{plane}
+use Rattle.grid.proofs.Plane.{plane-ext, getD-plane, pixel-in}
+use Rattle.grid.specs.Ways.{Way, along, down, fall, rise, pixel, runSum}
+use Rattle.grid.proofs.Ways.{run-ext}
 use Rattle.params.specs.declared.RadonDetectorParams.{RadonDetectorParams}
 use Rattle.params.specs.Settings.{factorOf, rayOf}
 use Rattle.response.specs.Upsample.{upAt, workAt}

@@ -11,8 +11,10 @@ use lib.Dec.{eqb, lit<, lit≤}
 use lib.ListN.{length}
 use lib.IntN.{pos}
 use lib.Ieee.{Float, ofBits}
-use Rattle.grid.specs.Fill.{filled, filled-zero}
-use Rattle.grid.specs.Plane.{plane, pixel-in}
+use Rattle.grid.specs.Fill.{filled}
+use Rattle.grid.proofs.Fill.{filled-zero}
+use Rattle.grid.specs.Plane.{plane}
+use Rattle.grid.proofs.Plane.{pixel-in}
 use Rattle.grid.specs.Ways.{pixel}
 use Rattle.response.specs.Upsample.{weighted, after, upAt}
 use Rattle.as_rust.specs.Machine.{Machine, _⊕_, _⊖_, _⊗_, lit-0, lit-1, lit-half, lit-255, floor, rounded, clamp, maxℤ, usize, less, as-usize, as-f32, to-isize, to-u8, byte-at}

@@ -7,8 +7,9 @@ use native.Mathlib.Omega.{arith}
 use lib.Dec.{T}
 use lib.Ieee.{Float, nan, inf, fin, lt, le, ofBits, isNan}
 use Rattle.float.specs.Values.{f0}
-use Rattle.float.specs.Order.{lt-le, le-lt-trans, le-of-not-lt, lt-itself}
-use Rattle.grid.specs.Fold.{fold, fold-keeps, fold-still, fold-split}
+use Rattle.float.proofs.Order.{lt-le, le-lt-trans, le-of-not-lt, lt-itself}
+use Rattle.grid.specs.Fold.{fold}
+use Rattle.grid.proofs.Fold.{fold-keeps, fold-still, fold-split}
 use Rattle.detect.specs.Above.{eight}
 use Rattle.detect.specs.Corners.{greater}
 use Rattle.detect.proofs.Passing.{none-eight}

@@ -7,7 +7,7 @@ use native.Mathlib.Omega.{arith}
 use lib.Dec.{T, leb, leb→le}
 use lib.ListN.{getD}
 use lib.Ieee.Fits.{and-l, and-r}
-use Rattle.float.specs.Computed.{every, every-at}
+use Rattle.float.proofs.Computed.{every, every-at}
 use Rattle.grid.specs.Rect.{place}
 use Rattle.detect.specs.Saddle.{side, apart, inDisk}
 use Rattle.detect.specs.Around.{Reaches, Packs}

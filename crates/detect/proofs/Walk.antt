@@ -8,9 +8,11 @@ use native.Mathlib.Omega.{arith}
 use borrow.Author.Tests.{le-leb, lt-leb}
 use lib.ListN.{getD}
 use lib.Ieee.{Float}
-use Rattle.grid.specs.Each.{each, each-append, keep, keep-none, keep-yes}
-use Rattle.grid.specs.Plane.{row-in}
-use Rattle.grid.specs.Rect.{Place, place, from, range, range-split, line, rect, rect-none, before, before-first, before-more, before-last}
+use Rattle.grid.specs.Each.{each, keep}
+use Rattle.grid.proofs.Each.{each-append, keep-none, keep-yes}
+use Rattle.grid.proofs.Plane.{row-in}
+use Rattle.grid.specs.Rect.{Place, place, from, range, line, rect}
+use Rattle.grid.proofs.Rect.{range-split, rect-none, before, before-first, before-more, before-last}
 use Rattle.grid.specs.Ways.{pixel}
 use Rattle.detect.specs.Saddle.{side, inDisk, disk, offset, overDisk}
 use Rattle.detect.specs.Around.{Reaches, Around}

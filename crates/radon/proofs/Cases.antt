@@ -7,8 +7,8 @@ use native.Mathlib.Omega.{arith}
 use borrow.Author.Tests.{eq-eqb, ne-eqb, le-ltb}
 use lib.ListN.{length}
 use lib.Ieee.{Float, nan}
-use Rattle.grid.specs.Fill.{length-filled}
-use Rattle.grid.specs.Plane.{getD-plane, pixel-in}
+use Rattle.grid.proofs.Fill.{length-filled}
+use Rattle.grid.proofs.Plane.{getD-plane, pixel-in}
 use Rattle.grid.specs.Ways.{pixel}
 use Rattle.grid.specs.Over.{written}
 use Rattle.params.specs.declared.RadonDetectorParams.{RadonDetectorParams}

@@ -13,8 +13,8 @@ use lib.Dec.{T}
 use lib.ListN.{length, getD, take}
 use lib.Ieee.{Float, nan, le}
 use Rattle.float.specs.Values.{f0}
-use Rattle.grid.specs.Fill.{written-same}
-use Rattle.grid.specs.Plane.{pixel-in, column-in, row-number-in, plane-ext}
+use Rattle.grid.proofs.Fill.{written-same}
+use Rattle.grid.proofs.Plane.{pixel-in, column-in, row-number-in, plane-ext}
 use Rattle.grid.specs.Ways.{pixel}
 use Rattle.grid.specs.Over.{written}
 use Rattle.scalar.specs.Log.{high, lowest, highest}

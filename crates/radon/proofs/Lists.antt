@@ -13,10 +13,12 @@ use lib.Seq.{getD-take, take-length, length-take-le}
 use lib.Ieee.{Float, nan, le}
 use lib.Ieee.Scale.{finite}
 use Rattle.grid.specs.Ways.{pixel}
-use Rattle.grid.specs.Each.{each, keep, count, count-most}
+use Rattle.grid.specs.Each.{each, keep, count}
+use Rattle.grid.proofs.Each.{count-most}
 use Rattle.grid.specs.Rect.{Place, place}
-use Rattle.grid.specs.Over.{written, opening, shorter, past}
-use Rattle.grid.specs.Entries.{all-at, each-entry}
+use Rattle.grid.specs.Over.{written}
+use Rattle.grid.proofs.Over.{opening, shorter, past}
+use Rattle.grid.proofs.Entries.{all-at, each-entry}
 use Rattle.params.specs.declared.RadonDetectorParams.{RadonDetectorParams}
 use Rattle.params.specs.declared.Answer.the-variants.{Complete, ListFull}
 use Rattle.params.specs.declared.Outcome.{Outcome}

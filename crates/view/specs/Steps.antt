@@ -11,7 +11,7 @@ use mathlib.Core.List.{List, []}
 use lib.Dec.{leb}
 use lib.ListN.{length, getD, take, drop}
 use lib.Ieee.{Float, nan}
-use Rattle.grid.specs.Plane.{row-in}
+use Rattle.grid.proofs.Plane.{row-in}
 use Rattle.view.specs.declared.Place.the-variants.{Value, Outside}
 use Rattle.view.specs.View.{whole, rowInside, placeAt, rowAt, rowStart}
 

@@ -5,7 +5,7 @@ use native.Mathlib.Nat.{add-zero}
 use native.Mathlib.Omega.{arith}
 use lib.Ieee.{Float}
 use Rattle.float.specs.Values.{f0}
-use Rattle.grid.specs.Fold.{fold-first, Folding, folding-none, folding-part, folding-rest}
+use Rattle.grid.proofs.Fold.{fold-first, Folding, folding-none, folding-part, folding-rest}
 use Rattle.detect.specs.Above.{entry}
 use Rattle.detect.specs.Corners.{greater}
 use Rattle.detect.proofs.Greatest.{greatest-joined}

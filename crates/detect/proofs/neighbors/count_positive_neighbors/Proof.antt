@@ -6,8 +6,10 @@ use mathlib.Core.List.{List}
 use lib.ListN.{length}
 use lib.Ieee.{Float, lt}
 use Rattle.float.specs.Values.{f0}
-use Rattle.grid.specs.Each.{count, count-none, count-append, count-most}
-use Rattle.grid.specs.Rect.{Place, place, line, Down, down-none, down-row, down-all, length-line}
+use Rattle.grid.specs.Each.{count}
+use Rattle.grid.proofs.Each.{count-none, count-append, count-most}
+use Rattle.grid.specs.Rect.{Place, place, line}
+use Rattle.grid.proofs.Rect.{Down, down-none, down-row, down-all, length-line}
 use Rattle.detect.specs.Window.{value, at, window}
 use Rattle.detect.proofs.Windows.{room-row, part-length, part-count, positives-more, positives-same}
 use Rattle.detect.proofs.neighbors.count_positive_neighbors.Statement.{statement}

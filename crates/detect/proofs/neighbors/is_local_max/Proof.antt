@@ -6,8 +6,10 @@ use mathlib.Core.Bool.{false}
 use lib.ListN.{length}
 use mathlib.Core.List.{List}
 use lib.Ieee.{Float, lt}
-use Rattle.grid.specs.Each.{any, any-none, any-append}
-use Rattle.grid.specs.Rect.{Place, Down, down-none, down-row, down-all}
+use Rattle.grid.specs.Each.{any}
+use Rattle.grid.proofs.Each.{any-none, any-append}
+use Rattle.grid.specs.Rect.{Place}
+use Rattle.grid.proofs.Rect.{Down, down-none, down-row, down-all}
 use Rattle.detect.specs.Window.{value, at}
 use Rattle.detect.proofs.Windows.{room-row, nearest-beats, beaten-is, part-free, part-beats}
 use Rattle.detect.proofs.neighbors.is_local_max.Statement.{statement}

@@ -4,7 +4,7 @@ use Prim.Native.Nat.{_+_, _-_, _*_, _≤_, _<_}
 use native.Mathlib.Omega.{arith}
 use mathlib.Core.Logic.{inl, inr}
 use lib.ListN.{length}
-use Rattle.grid.specs.Plane.{row-in}
+use Rattle.grid.proofs.Plane.{row-in}
 use Rattle.grid.specs.Ways.{pixel}
 use Rattle.detect.specs.Window.{value}
 use Rattle.detect.specs.Corners.{borderOf, isKept}

@@ -2,7 +2,7 @@
 use Prim.Native.Nat.{_*_}
 use native.Mathlib.Omega.{arith}
 use lib.ListN.{length-set}
-use Rattle.grid.specs.Over.{sets-three}
+use Rattle.grid.proofs.Over.{sets-three}
 use borrow.Author.Needs.{needs}
 use Rattle.detect.proofs.peaks.store.Statement.{statement}
 use Rattle.detect.proofs.peaks.store.Tie as tie

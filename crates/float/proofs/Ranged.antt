@@ -16,8 +16,8 @@ use lib.Ieee.Positive.{through, first-pos}
 use lib.Ieee.Scale.{round-same, finite}
 use borrow.Author.Tests.{ne-eqb}
 use Rattle.float.specs.Values.{f0}
-use Rattle.float.specs.Order.{or-le}
-use Rattle.float.specs.Sized.{Sized, sized, Held, round-sized, add-plus}
+use Rattle.float.proofs.Order.{or-le}
+use Rattle.float.proofs.Sized.{Sized, sized, Held, round-sized, add-plus}
 
 pub data Ranged : ℕ → ℕ → ℕ → Float → Type 0 where
   ranged : {a c n m : ℕ} {e : ℤ} → a * down e ≤ m * up e * c → m * up e ≤ n * down e → Ranged a c n (fin false m e)

@@ -7,9 +7,11 @@ use native.Mathlib.Omega.{arith}
 use mathlib.Core.List.{List, [], _∷_, _++_}
 use lib.ListN.{take, drop}
 use lib.Seq.{take-nil, drop-nil}
-use Rattle.grid.specs.Fill.{filled, filled-nil, filled-ext, length-fill}
-use Rattle.grid.specs.Plane.{plane, plane-at, next-row}
-use Rattle.grid.specs.Loops.{Rows}
+use Rattle.grid.specs.Fill.{filled}
+use Rattle.grid.proofs.Fill.{filled-nil, filled-ext, length-fill}
+use Rattle.grid.specs.Plane.{plane}
+use Rattle.grid.proofs.Plane.{plane-at, next-row}
+use Rattle.grid.proofs.Loops.{Rows}
 
 module _ {ℓ} {A : Type ℓ} where
   front : (k : ℕ) (f : ℕ → A) (xs : List A) → filled k f (take k xs) ++ drop k xs ≡ filled k f xs
@@ -34,7 +36,7 @@ module _ {ℓ} {A : Type ℓ} where
 module _ {ℓ} {A : Type ℓ} (w h : ℕ) (g : ℕ → ℕ → A) (xs : List A) where
   pub rows-part : {ys zs : List A} {y i : ℕ} → i ≡ y * w → Rows w h g xs ys y → y < h → zs ≡ filled w (λ x. g x y) (take (i + w - i) (drop i ys))
       → Rows w h g xs (take i ys ++ (zs ++ drop (i + w - i) (drop i ys))) (y + 1)
-  rows-part {ys} {zs} {y} {i} e r b z = record { most = omega arith; fill = fill; long = length-fill _ _ _ fill }
+  rows-part {ys} {zs} {y} {i} e r b z = record { least = omega arith; most = omega arith; fill = fill; long = length-fill _ _ _ fill }
     where
       size : y * w + w - y * w ≡ w
       size = omega arith

@@ -12,9 +12,9 @@ use lib.Ieee.{Float, nan, inf, fin, up, down, binary32, add, sum, le, lt, eq}
 use lib.Ieee.Fits.{down-pos}
 use lib.Ieee.Exact.{HasValue}
 use lib.Ieee.Positive.{through}
-use Rattle.float.specs.Order.{or-le, or-ge}
-use Rattle.float.specs.Sized.{Held, held}
-use Rattle.float.specs.Ranged.{Ranged, ranged, Exact, round-ranged}
+use Rattle.float.proofs.Order.{or-le, or-ge}
+use Rattle.float.proofs.Sized.{Held, held}
+use Rattle.float.proofs.Ranged.{Ranged, ranged, Exact, round-ranged}
 
 -- finite, and at most u / v in size, with either sign
 pub data Within : ℕ → ℕ → Float → Type 0 where

@@ -8,7 +8,7 @@ use mathlib.Core.List.{List, [], _∷_}
 use lib.ListN.{length, getD, List·getD-append}
 use lib.Seq.{getD-append-add}
 use Rattle.grid.specs.Each.{each}
-use Rattle.grid.specs.All.{all}
+use Rattle.grid.proofs.All.{all}
 
 pub all-at : {A : Type 0} (P : A → Type 0) (l : List A) (i : ℕ) (z : A) → all P l → i < length l → P (getD l i z)
 all-at P [] i z p b = absurd (not-suc-le-zero b)

@@ -14,7 +14,7 @@ use lib.Ieee.Order.{round-mono}
 use lib.Ieee.Positive.{num, den, den-pos}
 use lib.Ieee.Scale.{round-same, finite}
 use Rattle.float.specs.Values.{f0, f1}
-use Rattle.float.specs.Order.{or-le, both-eq, no-factor, le-lt-trans}
+use Rattle.float.proofs.Order.{or-le, both-eq, no-factor, le-lt-trans}
 
 -- finite, and not below zero
 abbrev Nonneg : Float → Type 0
