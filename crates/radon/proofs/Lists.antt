@@ -36,9 +36,9 @@ use Rattle.detect.proofs.Scanning.{numbers-long}
 use Rattle.detect.proofs.HigherSettings.{raised, passesHigher, higher-corners}
 use Rattle.detect.proofs.Inside.{corners-same, list-same}
 use Rattle.detect.proofs.Places.{OnFrame, Inner, corners-inner, numbers-on-frame}
-use Rattle.radon.specs.Finder.{Buffers, answered, found, outcomeOf, buffersOf}
+use Rattle.radon.specs.Finder.{Buffers, Bytes, answered, found, outcomeOf, buffersOf}
 use Rattle.radon.proofs.Cases.{found-is, list-is}
-use Rattle.radon.proofs.Left.{Accepted, Bytes, mapLeft, imageLeft, listLeft, runs, left-is, working-is, response-is, byte-most}
+use Rattle.radon.proofs.Left.{Accepted, mapLeft, imageLeft, listLeft, runs, left-is, working-is, response-is, byte-most}
 
 -- ---- what a call leaves, by name
 

@@ -1,7 +1,7 @@
 -- What the finder promises: document 01's table of answers, the map and the list put together, in one answer and one equation of all eight buffers.
 use mathlib.Core.List.{List}
-use Prim.Native.Nat.{ℕ, _/_}
-use lib.ListN.{length}
+use Prim.Native.Nat.{ℕ, _/_, _<_}
+use lib.ListN.{length, getD}
 use lib.Ieee.{Float}
 use Rattle.grid.specs.Ways.{pixel}
 use Rattle.grid.specs.Rect.{Place}
@@ -23,6 +23,10 @@ pub record Buffers : Type 0 where
 -- in the order in which they are lent
 abbrev pub lent : List ℕ → List ℕ → List ℕ → List ℕ → List ℕ → List Float → List Float → List Float → Buffers
 lent working row col pos neg response scratch list = record { map = mapLent working row col pos neg response scratch; list = list }
+
+-- an image of bytes, which every lent `&[u8]` is: the theorems that need it ask for it
+abbrev pub Bytes : List ℕ → Type 0
+Bytes img = (i : ℕ) → getD img i 0 < 256
 
 -- the table of answers: 2 to 9, the lowest first; 9 is not judged on the list
 abbrev pub answered : List ℕ → ℕ → ℕ → RadonDetectorParams → Buffers → Answer

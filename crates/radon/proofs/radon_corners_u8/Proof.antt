@@ -22,7 +22,9 @@ given c =
 
 -- from the end to the call that makes the map, and from there to the answer's number and to the answer
 abbrev the-map : tie.After-slice-known16 → tie.After-radon-response-u8
-the-map c = c .before .before .before .before .before .before .before .before .before .before .before .before .before .before .before .before .before .before .before .before
+the-map c =
+    c .before .before .before .before .before .before .before .before .before .before
+    .before .before .before .before .before .before .before .before .before .before
 
 abbrev number-0 : tie.After-radon-response-u8 → tie.Else1
 number-0 c = c .before .before .before .before .before .before .before .before
