@@ -27,6 +27,7 @@ module _ (response : List Float) (image : List ℕ) (w h y : ℕ) where
   short-row l = simp (short l)
 
   -- a place of the map is an entry of its row
-  pub place-in-row : (x : ℕ) → x < w → rowInside (length response) (length image) w h y ≡ true → placeAt response image w h x y ≡ Value (getD (rowAt response image w h y) x nan)
+  pub place-in-row : (x : ℕ) → x < w → rowInside (length response) (length image) w h y ≡ true
+      → placeAt response image w h x y ≡ Value (getD (rowAt response image w h y) x nan)
   unfolding placeAt rowAt
   place-in-row x l t = simp (t, lt-ltb x w l, getD-take, getD-drop)

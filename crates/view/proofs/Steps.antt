@@ -81,7 +81,8 @@ module _ (response : List Float) (image : List ℕ) (w h x y : ℕ) where
   unfolding placeAt
   place-none t = simp (sym t, and-false)
 
-  pub place-found : x < w → true ≡ rowInside (length response) (length image) w h y → Value (getD response (y * w + x) nan) ≡ placeAt response image w h x y
+  pub place-found : x < w → true ≡ rowInside (length response) (length image) w h y
+      → Value (getD response (y * w + x) nan) ≡ placeAt response image w h x y
   unfolding placeAt
   place-found l t = simp (sym t, lt-ltb x w l)
 
@@ -95,7 +96,8 @@ module _ (response : List Float) (image : List ℕ) (w h y : ℕ) where
   unfolding rowStart
   start-none t = rw (← t)
 
-  pub values-found : true ≡ rowInside (length response) (length image) w h y → take (y * w + w - y * w) (drop (y * w) response) ≡ rowAt response image w h y
+  pub values-found : true ≡ rowInside (length response) (length image) w h y
+      → take (y * w + w - y * w) (drop (y * w) response) ≡ rowAt response image w h y
   unfolding rowAt
   values-found t =
       let n : y * w + w - y * w ≡ w = omega arith in
