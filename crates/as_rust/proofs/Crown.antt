@@ -41,13 +41,13 @@ use Rattle.detect.specs.Window.{value}
 use Rattle.detect.specs.Corners.{corners, numbers, stride}
 use Rattle.detect.proofs.Inside.{corners-same}
 use Rattle.detect.proofs.Places.{Inner, corners-inner}
-use Rattle.radon.specs.Finder.{Buffers, answered, found, outcomeOf, buffersOf}
+use Rattle.radon.specs.Finder.{Buffers, Bytes, answered, found, outcomeOf, buffersOf}
 use Rattle.radon.proofs.Cases.{runs-by}
 use Rattle.as_rust.specs.Machine.{Machine, Sound, lit-minus-0, lit-0}
 use Rattle.as_rust.specs.Primitives.{is-gaussian, peak-frac, fit-peak-frac}
 use Rattle.as_rust.specs.Response.{default, RadonBuffers, RadonResponseView, view, radon-response-u8}
 use Rattle.as_rust.specs.Detect.{detect-peaks-from-radon}
-use Rattle.as_rust.specs.Runs.{Bytes, SameMap, SameFound, SameList, numbers-by, LogIsOurs, found-by, SameRun}
+use Rattle.as_rust.specs.Runs.{SameMap, SameFound, SameList, numbers-by, LogIsOurs, found-by, SameRun}
 use Rattle.as_rust.proofs.Tests.{T-true}
 use Rattle.as_rust.proofs.Map.{Left, map-as-rust}
 use Rattle.as_rust.proofs.Root.{nearest-root, nearest-roots}

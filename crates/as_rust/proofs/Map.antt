@@ -27,10 +27,11 @@ use Rattle.response.specs.Blur.{valueAt, rowMean, blurAt, scratched}
 use Rattle.response.specs.BlurLaws.{rowMean-ext, blurAt-ext}
 use Rattle.response.specs.Runs.{Runs, side-most}
 use Rattle.response.specs.Map.{Buffers, rawAt, mapAt, mappedBy, mapped, sideOf}
+use Rattle.radon.specs.Finder.{Bytes}
 use Rattle.as_rust.specs.Machine.{Machine, usize, copy-from-slice, resize}
 use Rattle.as_rust.specs.Response.{RadonBuffers, Cumsums, image-upsample-clamped, ensure-capacity, upsample-bilinear-2x, sat-row, sat-col, sat-diag-pos, sat-diag-neg, compute-response, radon-response-u8}
 use Rattle.as_rust.specs.Primitives.{box-blur-inplace}
-use Rattle.as_rust.specs.Runs.{Bytes, SameMap}
+use Rattle.as_rust.specs.Runs.{SameMap}
 use Rattle.as_rust.proofs.Machine.{usize-is, copy-is, resize-long}
 use Rattle.as_rust.proofs.Upsample.{upsample-as-rust}
 use Rattle.as_rust.proofs.Tables.{run, Image, Sums, sums-fill, row-sums, column-sums, falling-sums, rising-sums}
