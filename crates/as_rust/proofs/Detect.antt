@@ -11,10 +11,12 @@ use lib.Dec.{T, ltb, leb, eqb}
 use lib.ListN.{length, getD}
 use lib.IntN.{pos}
 use lib.Ieee.{Float, nan, binary32, ofBits, ofInt, fits, div, lt}
-use Rattle.grid.specs.Plane.{pixel-in}
+use Rattle.grid.proofs.Plane.{pixel-in}
 use Rattle.grid.specs.Ways.{pixel}
-use Rattle.grid.specs.Each.{each, each-more, each-none, keep, keep-none, keep-yes, keep-no}
-use Rattle.grid.specs.Rect.{Place, place, before, rect, range, from, line}
+use Rattle.grid.specs.Each.{each, keep}
+use Rattle.grid.proofs.Each.{each-more, each-none, keep-none, keep-yes, keep-no}
+use Rattle.grid.specs.Rect.{Place, place, rect, range, from, line}
+use Rattle.grid.proofs.Rect.{before}
 use Rattle.params.specs.declared.settings.RadonDetectorParams.{RadonDetectorParams}
 use Rattle.params.specs.declared.settings.PeakFitMode.{PeakFitMode}
 use Rattle.params.specs.declared.settings.PeakFitMode.the-variants.{Parabolic, Gaussian}

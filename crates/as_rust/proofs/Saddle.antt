@@ -12,11 +12,12 @@ use lib.ListN.{length}
 use lib.IntN.{ℤ, pos, negsuc}
 use lib.Ieee.{Float, nan, inf, fin, binary32, minus, ofInt, ofBits, toBits, fits, add, mul, le}
 use lib.Ieee.Fits.{add-fits}
-use Rattle.float.specs.Computed.{every, every-at, alike, alike-same}
-use Rattle.grid.specs.Plane.{pixel-in}
-use Rattle.grid.specs.Each.{each, keep, length-each}
+use Rattle.float.proofs.Computed.{every, every-at, alike, alike-same}
+use Rattle.grid.proofs.Plane.{pixel-in}
+use Rattle.grid.specs.Each.{each, keep}
+use Rattle.grid.proofs.Each.{length-each}
 use Rattle.grid.specs.Rect.{Place, rect, range, from, line}
-use Rattle.grid.specs.All.{all, all-map, all-keep, all-rect, InRect, foldl-same}
+use Rattle.grid.proofs.All.{all, all-map, all-keep, all-rect, InRect, foldl-same}
 use Rattle.grid.specs.Ways.{pixel}
 use Rattle.saddle.specs.Saddle.{noSums, noMoments, side, disk, inDisk, offset, around, overDisk, momentAdded, momentsOf, meanOf, normAdded, normsOf, saddleOf, added, sumsOf, magnitude, squares, saddleAt, byCurvatures}
 use Rattle.saddle.specs.declared.Saddle.the-variants.{Yes, Flat, Curved}

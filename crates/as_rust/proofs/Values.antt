@@ -13,10 +13,11 @@ use lib.IntN.{ℤ, pos, negsuc}
 use lib.Ieee.{Float, nan, inf, fin, binary32, up, down, unlike, ofBits, round, isNan, mul, lt, eq, le}
 use lib.Ieee.Exact.{HasValue}
 use lib.Ieee.Fits.{up-pos, down-pos, and-i}
-use Rattle.float.specs.Order.{le-lt-trans, le-of-not-lt, lt-itself, both-eq, no-factor}
-use Rattle.float.specs.Sized.{Sized, sized, Small, small, held, small-of-le, mul-sized, mul-small, small-number}
-use Rattle.float.specs.Product.{round-zero}
-use Rattle.grid.specs.Fold.{fold, fold-more, fold-ext}
+use Rattle.float.proofs.Order.{le-lt-trans, le-of-not-lt, lt-itself, both-eq, no-factor}
+use Rattle.float.proofs.Sized.{Sized, sized, Small, small, held, small-of-le, mul-sized, mul-small, small-number}
+use Rattle.float.proofs.Product.{round-zero}
+use Rattle.grid.specs.Fold.{fold}
+use Rattle.grid.proofs.Fold.{fold-more, fold-ext}
 use Rattle.grid.specs.Plane.{plane}
 use Rattle.detect.specs.PeakFit.{greatest, usable}
 use Rattle.grid.specs.Ways.{value}

@@ -11,10 +11,12 @@ use lib.ListN.{length, getD, take, drop}
 use lib.Ieee.{Float, nan, binary32, add, fits}
 use lib.Ieee.Fits.{mul-fits}
 use Rattle.float.specs.Values.{f0}
-use Rattle.grid.specs.Fold.{fold-ext}
-use Rattle.grid.specs.Fill.{filled, written-same, drop-filled}
-use Rattle.grid.specs.Plane.{plane, plane-ext, getD-plane, pixel-in}
-use Rattle.grid.specs.Touch.{filled-same}
+use Rattle.grid.proofs.Fold.{fold-ext}
+use Rattle.grid.specs.Fill.{filled}
+use Rattle.grid.proofs.Fill.{written-same, drop-filled}
+use Rattle.grid.specs.Plane.{plane}
+use Rattle.grid.proofs.Plane.{plane-ext, getD-plane, pixel-in}
+use Rattle.grid.proofs.Touch.{filled-same}
 use Rattle.blur.specs.Blur.{valueAt, counted, windowSum, meanAt, rowMean, columnMean, blurAt, scratched}
 
 -- a place of a window is one of the n

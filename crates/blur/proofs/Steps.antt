@@ -11,10 +11,13 @@ use lib.Seq.{getD-take, getD-drop}
 use lib.IntN.{pos}
 use lib.Ieee.{Float, nan, binary32, add, mul, div, ofInt}
 use Rattle.float.specs.Values.{f0, f1}
-use Rattle.grid.specs.Fold.{fsum, fold-none, fold-on}
-use Rattle.grid.specs.Fill.{filled, filled-zero, filled-ext, length-fill}
-use Rattle.grid.specs.Part.{fill-part}
-use Rattle.grid.specs.Touch.{touched, length-touched, touched-on, touched-join, Stage, stage-none, stage-more, stage-all}
+use Rattle.grid.specs.Fold.{fsum}
+use Rattle.grid.proofs.Fold.{fold-none, fold-on}
+use Rattle.grid.specs.Fill.{filled}
+use Rattle.grid.proofs.Fill.{filled-zero, filled-ext, length-fill}
+use Rattle.grid.proofs.Part.{fill-part}
+use Rattle.grid.specs.Touch.{touched}
+use Rattle.grid.proofs.Touch.{length-touched, touched-on, touched-join, Stage, stage-none, stage-more, stage-all}
 use Rattle.blur.specs.Blur.{valueAt, counted, countOf, windowSum, meanAt, rowMean, columnMean}
 use Rattle.blur.specs.Kernel.{addThree, rowsFrom}
 use Rattle.blur.proofs.BlurLaws.{meanAt-ext}

@@ -11,11 +11,13 @@ use lib.Seq.{take-length}
 use lib.Dec.{T, leb, leb→le, le→leb}
 use lib.Ieee.{Float, lt, le}
 use Rattle.float.specs.Values.{f0, f1}
-use Rattle.float.specs.Product.{fraction-lower}
-use Rattle.grid.specs.Each.{each, keep, keep-keep, keep-ext, count, count-most}
+use Rattle.float.proofs.Product.{fraction-lower}
+use Rattle.grid.specs.Each.{each, keep, count}
+use Rattle.grid.proofs.Each.{keep-keep, keep-ext, count-most}
 use Rattle.grid.specs.Rect.{Place}
-use Rattle.grid.specs.Over.{written, opening}
-use Rattle.grid.specs.Ways.{pixel, value}
+use Rattle.grid.specs.Over.{written}
+use Rattle.grid.proofs.Over.{opening}
+use Rattle.grid.specs.Ways.{pixel}
 use Rattle.params.specs.declared.settings.RadonDetectorParams.{RadonDetectorParams}
 use Rattle.params.specs.Answers.{numberOf}
 use Rattle.params.specs.Refusals.{listRefusal, mapRefusal}

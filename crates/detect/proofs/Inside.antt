@@ -9,13 +9,13 @@ use lib.ListN.{length, take}
 use lib.Dec.{leb}
 use lib.Ieee.{Float, binary32, lt, mul}
 use Rattle.float.specs.Values.{f0}
-use Rattle.grid.specs.Fold.{fold-ext}
-use Rattle.grid.specs.Plane.{plane, column-in, row-number-in}
-use Rattle.grid.specs.Each.{each, keep, count}
+use Rattle.grid.proofs.Fold.{fold-ext}
+use Rattle.grid.specs.Plane.{plane}
+use Rattle.grid.proofs.Plane.{column-in, row-number-in}
+use Rattle.grid.specs.Each.{each, keep, any, count}
 use Rattle.grid.specs.Rect.{Place, place, rect}
 use Rattle.grid.specs.Over.{over, written}
-use Rattle.grid.specs.Ways.{Inside as Clear}
-use Rattle.grid.specs.All.{all, all-map, all-keep, all-take, all-rect, Between, InRect, each-same, keep-same, any-same}
+use Rattle.grid.proofs.All.{all, all-map, all-keep, all-take, all-rect, Between, InRect, each-same, keep-same, any-same, foldl-same}
 use Rattle.params.specs.declared.settings.RadonDetectorParams.{RadonDetectorParams}
 use Rattle.params.specs.Settings.{rayOf}
 use Rattle.detect.specs.declared.saddle.SaddleTest.{SaddleTest}

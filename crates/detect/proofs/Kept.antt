@@ -8,12 +8,14 @@ use mathlib.Core.List.{List}
 use lib.Dec.{T, leb}
 use lib.Ieee.{Float, inf, lt, le}
 use Rattle.float.specs.Values.{f0, f1}
-use Rattle.float.specs.Order.{lt-itself}
-use Rattle.float.specs.Product.{infinite-product, zero-product}
-use Rattle.grid.specs.Fold.{fold, fold-keeps}
+use Rattle.float.proofs.Order.{lt-itself}
+use Rattle.float.proofs.Product.{infinite-product, zero-product}
+use Rattle.grid.specs.Fold.{fold}
+use Rattle.grid.proofs.Fold.{fold-keeps}
 use Rattle.grid.specs.Plane.{plane}
 use Rattle.grid.specs.Each.{count}
-use Rattle.grid.specs.Rect.{Place, place, any-rect-none}
+use Rattle.grid.specs.Rect.{Place, place}
+use Rattle.grid.proofs.Rect.{any-rect-none}
 use Rattle.params.specs.declared.settings.RadonDetectorParams.{RadonDetectorParams}
 use Rattle.params.specs.Answers.{numberOf}
 use Rattle.saddle.specs.declared.Saddle.the-variants.{Yes}

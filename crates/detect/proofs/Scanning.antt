@@ -13,13 +13,14 @@ use lib.Dec.{T, leb, le→leb}
 use lib.IntN.{pos}
 use lib.Ieee.{Float, nan, binary32, lt, mul, inFloat}
 use Rattle.float.specs.Values.{f0}
-use Rattle.grid.specs.Fold.{fold-ext}
-use Rattle.grid.specs.Plane.{plane, row-in}
-use Rattle.grid.specs.Each.{keep-none}
-use Rattle.grid.specs.Rect.{Place, place, any-in, length-rect, Down, down-none, down-more, down-all}
-use Rattle.grid.specs.Rect.{Across, across-none, across-more, across-skip}
-use Rattle.grid.specs.Ways.{pixel, value}
-use Rattle.grid.specs.Over.{Listed, listed-none, Onward, onward-none, onward-no, onward-full, onward-put}
+use Rattle.grid.specs.Fold.{fold}
+use Rattle.grid.proofs.Fold.{fold-ext}
+use Rattle.grid.specs.Plane.{plane}
+use Rattle.grid.proofs.Each.{keep-none}
+use Rattle.grid.specs.Rect.{Place, place, rect}
+use Rattle.grid.proofs.Rect.{any-in, Across, across-none, across-more, across-skip, down-more, Down, down-none, down-all, length-rect}
+use Rattle.grid.specs.Over.{written, Listed, Onward}
+use Rattle.grid.proofs.Over.{listed-none, onward-none, onward-no, onward-full, onward-put}
 use Rattle.params.specs.declared.settings.RadonDetectorParams.{RadonDetectorParams}
 use Rattle.params.specs.Settings.{rayOf}
 use Rattle.saddle.specs.declared.SaddleTest.{SaddleTest}

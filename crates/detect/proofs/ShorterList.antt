@@ -6,7 +6,7 @@ use mathlib.Core.List.{List}
 use lib.ListN.{length, take, drop}
 use lib.Dec.{eqb, lit<}
 use lib.Ieee.{Float}
-use Rattle.grid.specs.Over.{shorter, past}
+use Rattle.grid.proofs.Over.{shorter, past}
 use Rattle.params.specs.declared.settings.RadonDetectorParams.{RadonDetectorParams}
 use Rattle.params.specs.declared.answers.Outcome.{Outcome}
 use Rattle.params.specs.Answers.{numberOf, refused}

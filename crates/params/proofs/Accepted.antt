@@ -7,9 +7,8 @@ use borrow.Author.Tests.{ltb-false, eqb-true, eq-eqb, ne-eqb, not-false}
 use lib.Dec.{T, ltb, eqb}
 use lib.Ieee.{Float, lt, le, isNan, ofBits}
 use Rattle.float.specs.Values.{f0, f1}
-use Rattle.float.specs.Order.{le-of-not-lt}
+use Rattle.float.proofs.Order.{le-of-not-lt}
 use Rattle.params.specs.declared.answers.Answer.{Answer}
-use Rattle.params.specs.declared.answers.Answer.the-variants.{Complete}
 use Rattle.params.specs.declared.settings.RadonDetectorParams.{RadonDetectorParams}
 use Rattle.params.specs.Answers.{numberOf}
 use Rattle.params.specs.Refusals.{

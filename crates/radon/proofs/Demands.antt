@@ -32,8 +32,9 @@ use Rattle.detect.specs.Maximum.{entry}
 use Rattle.detect.specs.Corners.{stride}
 use Rattle.detect.proofs.HigherSettings.{raised}
 use Rattle.detect.proofs.Places.{OnFrame}
-use Rattle.radon.specs.Finder.{Buffers, answered, outcomeOf, buffersOf}
-use Rattle.radon.proofs.Left.{Accepted, Bytes, mapLeft, imageLeft, listLeft, runs, map-is, working-is, response-is, entry-is, entry-range, same-response, byte-most, is-true}
+use Rattle.radon.specs.Finder.{Buffers, Bytes, answered, outcomeOf, buffersOf}
+use Rattle.radon.proofs.Left.{Accepted, mapLeft, imageLeft, listLeft, runs, map-is, working-is, response-is, entry-is}
+use Rattle.radon.proofs.Left.{entry-range, same-response, byte-most, is-true}
 use Rattle.radon.proofs.Lists.{writtenBy, roomIn, xOf, yOf, strengthOf, ListIs, Filtered, Opens}
 use Rattle.radon.proofs.Lists as lists
 

@@ -5,8 +5,9 @@ use Prim.Native.Nat.{ℕ, _+_, _-_, _≤_}
 use native.Mathlib.Nat.{zero-add}
 use native.Mathlib.Omega.{arith}
 use lib.ListN.{length, take, drop, length-take, length-drop}
-use Rattle.grid.specs.Fill.{filled, filled-ext, length-filled}
-use Rattle.grid.specs.Part.{fill-part}
+use Rattle.grid.specs.Fill.{filled}
+use Rattle.grid.proofs.Fill.{filled-ext, length-filled}
+use Rattle.grid.proofs.Part.{fill-part}
 
 module _ {ℓ} {A : Type ℓ} (f : ℕ → A) (xs : List A) where
   -- how long a part is

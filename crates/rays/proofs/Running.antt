@@ -5,10 +5,13 @@ use Prim.Native.Nat.{ℕ, _+_, _-_, _*_, _≤_, _<_}
 use native.Mathlib.Nat.{mul-comm, zero-mul}
 use native.Mathlib.Omega.{arith}
 use lib.ListN.{length, getD}
-use Rattle.grid.specs.Fill.{filled, filled-zero, length-fill, getD-filled}
-use Rattle.grid.specs.Plane.{plane, row-in, next-row, row-above, column-in, row-number-in}
-use Rattle.grid.specs.Loops.{Rows, Row, row-none, row-read, rows-on, rows-join}
-use Rattle.grid.specs.Span.{span, row-span}
+use Rattle.grid.specs.Fill.{filled}
+use Rattle.grid.proofs.Fill.{filled-zero, length-fill, getD-filled}
+use Rattle.grid.specs.Plane.{plane}
+use Rattle.grid.proofs.Plane.{row-in, next-row, row-above, column-in, row-number-in}
+use Rattle.grid.proofs.Loops.{Rows, Row, row-none, row-read, rows-on, rows-join}
+use Rattle.grid.specs.Span.{span}
+use Rattle.grid.proofs.Span.{row-span}
 use Rattle.grid.specs.Ways.{Way, along, down, fall, rise, pixel}
 use Rattle.rays.specs.Tables.{tableAt, tableOf}
 use Rattle.rays.specs.Passes.{Above}

@@ -6,9 +6,12 @@ use native.Mathlib.Nat.{mul-le-mul-left}
 use native.Mathlib.Omega.{arith}
 use lib.ListN.{length, getD}
 use lib.Ieee.{Float}
-use Rattle.grid.specs.Fill.{filled, length-fill}
-use Rattle.grid.specs.Plane.{plane, plane-ext, row-in}
-use Rattle.grid.specs.Ways.{Way, along, down, fall, rise, runSum, run-ext, ray, ray-most, ray-ext, Holds, holds, Inside, Deep, ray-deep, deep-inside}
+use Rattle.grid.specs.Fill.{filled}
+use Rattle.grid.proofs.Fill.{length-fill}
+use Rattle.grid.specs.Plane.{plane}
+use Rattle.grid.proofs.Plane.{plane-ext, row-in}
+use Rattle.grid.specs.Ways.{Way, along, down, fall, rise, runSum, ray, Holds, Inside, Deep}
+use Rattle.grid.proofs.Ways.{run-ext, ray-most, ray-ext, holds, ray-deep, deep-inside}
 use Rattle.rays.specs.Tables.{tableAt, tableOf}
 use Rattle.rays.specs.Response.{responseAt}
 use Rattle.rays.specs.Shown.{shown, Tables}

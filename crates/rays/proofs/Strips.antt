@@ -7,9 +7,12 @@ use native.Mathlib.Nat.{div-add-mod', eq-or-lt-of-le, mul-comm}
 use native.Mathlib.Decide.{decLt}
 use native.Mathlib.Omega.{arith}
 use lib.ListN.{length, getD}
-use Rattle.grid.specs.Fill.{filled, filled-intro}
-use Rattle.grid.specs.Plane.{plane, row-in, pixel-in, row-above, column-of, column-in, row-number-in}
-use Rattle.grid.specs.Span.{span, length-span, getD-before, getD-inside, getD-behind}
+use Rattle.grid.specs.Fill.{filled}
+use Rattle.grid.proofs.Fill.{filled-intro}
+use Rattle.grid.specs.Plane.{plane}
+use Rattle.grid.proofs.Plane.{row-in, pixel-in, row-above, column-of, column-in, row-number-in}
+use Rattle.grid.specs.Span.{span}
+use Rattle.grid.proofs.Span.{length-span, getD-before, getD-inside, getD-behind}
 use Rattle.grid.specs.Ways.{down, pixel}
 use Rattle.rays.specs.Tables.{tableAt}
 use Rattle.rays.specs.Passes.{Strip}

@@ -10,8 +10,10 @@ use native.Mathlib.Omega.{arith}
 use lib.Dec.{ltb}
 use borrow.Author.Tests.{lt-ltb, le-ltb}
 use Rattle.grid.specs.Fill.{filled}
-use Rattle.grid.specs.Plane.{plane, plane-ext}
-use Rattle.grid.specs.Ways.{Way, along, down, fall, rise, runSum, prevx, prevy, Reach, run-first, run-on, run-at, run-most}
+use Rattle.grid.specs.Plane.{plane}
+use Rattle.grid.proofs.Plane.{plane-ext}
+use Rattle.grid.specs.Ways.{Way, along, down, fall, rise, runSum, Reach}
+use Rattle.grid.proofs.Ways.{prevx, prevy, run-first, run-on, run-at, run-most}
 use Rattle.rays.specs.Tables.{tableAt, tableOf}
 
 -- the pixel before x and y on its line

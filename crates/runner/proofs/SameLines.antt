@@ -10,7 +10,8 @@ use borrow.Author.Tests.{lt-ltb, le-ltb}
 use lib.Ieee.{Float}
 use lib.ListN.{length, take, drop, length-take, length-replicate}
 use lib.Seq.{take-nil, take-take, take-all}
-use Rattle.grid.specs.Over.{written, length-over}
+use Rattle.grid.specs.Over.{written}
+use Rattle.grid.proofs.Over.{length-over}
 use Rattle.float.specs.Values.{f0}
 use Rattle.params.specs.declared.answers.Outcome.{Outcome}
 use Rattle.params.specs.declared.settings.RadonDetectorParams.{RadonDetectorParams}

@@ -8,7 +8,7 @@ use lib.Dec.{T}
 use lib.ListN.{length}
 use lib.IntN.{pos}
 use lib.Ieee.{binary32, fits, toBits, ofBits, ofInt, add, sub, mul}
-use Rattle.float.specs.Computed.{every, every-at, alike, alike-same}
+use Rattle.float.proofs.Computed.{every, every-at, alike, alike-same}
 use Rattle.grid.specs.Each.{each, keep}
 use Rattle.grid.specs.Rect.{from, range, line, rect}
 use Rattle.saddle.specs.Saddle.{side, offset, disk, momentsOf}

@@ -8,7 +8,7 @@ use lib.IntN.{pos}
 use lib.Ieee.{binary32, ofInt}
 use Rattle.grid.specs.Each.{keep}
 use Rattle.grid.specs.Rect.{Place, rect}
-use Rattle.grid.specs.All.{all, all-map, all-keep, all-rect, InRect, foldl-same}
+use Rattle.grid.proofs.All.{all, all-map, all-keep, all-rect, InRect, foldl-same}
 use Rattle.grid.specs.Ways.{Inside}
 use Rattle.saddle.specs.declared.SaddleTest.{SaddleTest}
 use Rattle.saddle.specs.declared.Sums.{Sums}

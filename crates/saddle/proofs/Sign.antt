@@ -11,11 +11,11 @@ use lib.IntN.{ℤ, pos}
 use lib.Ieee.{Float, nan, inf, fin, binary32, up, down, ofBits, ofInt, unlike, neg, add, sub, mul, lt, eq, le}
 use lib.Ieee.Fits.{down-pos, up-pos}
 use Rattle.float.specs.Values.{f1}
-use Rattle.float.specs.Order.{no-factor}
-use Rattle.float.specs.Product.{round-zero}
-use Rattle.saddle.specs.declared.Saddle.the-variants.{Yes, Flat, Curved}
-use Rattle.saddle.specs.Saddle.{ratio, magnitude, byCurvatures}
-use Rattle.saddle.specs.Steps.{signless}
+use Rattle.float.proofs.Order.{no-factor}
+use Rattle.float.proofs.Product.{round-zero}
+use Rattle.detect.specs.declared.saddle.Saddle.the-variants.{Yes, Flat, Curved}
+use Rattle.detect.specs.Saddle.{ratio, magnitude, verdict}
+use Rattle.detect.specs.Around.{signless}
 
 -- ---- -0 is at most what +0 is at most
 

@@ -8,7 +8,7 @@ use native.Mathlib.Omega.{arith}
 use lib.Dec.{T, ltb, leb, leb→le}
 use lib.ListN.{getD}
 use lib.Ieee.Fits.{and-l, and-r}
-use Rattle.float.specs.Computed.{every, every-at}
+use Rattle.float.proofs.Computed.{every, every-at}
 use Rattle.grid.specs.Rect.{place}
 use Rattle.saddle.specs.Saddle.{side, inDisk}
 use Rattle.saddle.specs.Steps.{Packs, digit}

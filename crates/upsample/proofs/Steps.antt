@@ -5,9 +5,10 @@ use native.Mathlib.Nat.{one-mul}
 use native.Mathlib.Omega.{arith}
 use mathlib.Core.List.{List}
 use lib.ListN.{set, getD}
-use Rattle.grid.specs.Loops.{Line, line-more, line-all}
-use Rattle.grid.specs.Fill.{filled, filled-zero, filled-ext}
-use Rattle.grid.specs.Plane.{row-in}
+use Rattle.grid.proofs.Loops.{Line, line-more, line-all}
+use Rattle.grid.specs.Fill.{filled}
+use Rattle.grid.proofs.Fill.{filled-zero, filled-ext}
+use Rattle.grid.proofs.Plane.{row-in}
 use Rattle.grid.specs.Ways.{pixel}
 use Rattle.upsample.specs.Upsample.{after, workAt}
 use Rattle.upsample.specs.Kernel.{quarter, half, near, between}

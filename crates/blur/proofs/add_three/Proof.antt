@@ -5,7 +5,7 @@ use native.Mathlib.Omega.{arith}
 use lib.ListN.{length}
 use lib.Ieee.{nan}
 use lib.Ieee as ieee
-use Rattle.grid.specs.Touch.{Span, span-none, span-more, span-all}
+use Rattle.grid.proofs.Touch.{Span, span-none, span-more, span-all}
 use Rattle.blur.specs.Kernel.{addThree}
 use Rattle.blur.proofs.add_three.Statement.{statement}
 use Rattle.blur.proofs.add_three.Tie as tie

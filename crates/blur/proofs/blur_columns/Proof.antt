@@ -2,8 +2,8 @@
 use Prim.Native.Nat.{_-_}
 use native.Mathlib.Omega.{arith}
 use lib.ListN.{length-take, length-drop}
-use Rattle.grid.specs.Loops.{Rows, rows-none, rows-all}
-use Rattle.grid.specs.Part.{rows-part}
+use Rattle.grid.proofs.Loops.{Rows, rows-none, rows-all}
+use Rattle.grid.proofs.Part.{rows-part}
 use Rattle.blur.specs.Blur.{valueAt, columnMean}
 use Rattle.blur.proofs.blur_columns.Statement.{statement}
 use Rattle.blur.proofs.blur_columns.Tie as tie

@@ -6,7 +6,7 @@ use lib.ListN.{length}
 use lib.Ieee.{nan}
 use lib.Ieee as ieee
 use Rattle.float.specs.Values.{f0}
-use Rattle.grid.specs.Touch.{Span, span-none, span-more, span-all}
+use Rattle.grid.proofs.Touch.{Span, span-none, span-more, span-all}
 use Rattle.blur.proofs.clear.Statement.{statement}
 use Rattle.blur.proofs.clear.Tie as tie
 

@@ -4,8 +4,8 @@ use native.Mathlib.Omega.{arith}
 use lib.ListN.{length}
 use lib.Ieee.{nan, binary32}
 use lib.Ieee as ieee
-use Rattle.float.specs.Whole.{casts}
-use Rattle.grid.specs.Touch.{Span, span-none, span-more, span-all}
+use Rattle.float.proofs.Whole.{casts}
+use Rattle.grid.proofs.Touch.{Span, span-none, span-more, span-all}
 use Rattle.blur.specs.Blur.{countOf}
 use Rattle.blur.proofs.Steps.{by-count}
 use Rattle.blur.proofs.divide_edge.Statement.{statement}

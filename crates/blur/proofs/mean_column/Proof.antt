@@ -3,7 +3,7 @@ use Prim.Native.Nat.{_≤_}
 use native.Mathlib.Omega.{arith}
 use borrow.Author.Needs.{needs}
 use native.Mathlib.Nat.{mul-le-mul-left}
-use Rattle.float.specs.Whole.{casts}
+use Rattle.float.proofs.Whole.{casts}
 use Rattle.blur.proofs.Steps.{column-means}
 use Rattle.blur.proofs.mean_column.Statement.{statement}
 use Rattle.blur.proofs.mean_column.Tie as tie

@@ -2,7 +2,7 @@
 use mathlib.Core.Path.{refl}
 use native.Mathlib.Omega.{arith}
 use native.Mathlib.Nat.{mul-le-mul}
-use Rattle.grid.specs.Plane.{row-in}
+use Rattle.grid.proofs.Plane.{row-in}
 use Rattle.blur.proofs.row_start.Statement.{statement}
 use Rattle.blur.proofs.row_start.Tie as tie
 

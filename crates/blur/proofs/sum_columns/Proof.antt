@@ -2,8 +2,8 @@
 use Prim.Native.Nat.{_+_, _-_, _*_, _≤_}
 use native.Mathlib.Omega.{arith}
 use lib.Ieee.{nan}
-use Rattle.grid.specs.Plane.{row-in}
-use Rattle.grid.specs.Touch.{stage-on, stage-join}
+use Rattle.grid.proofs.Plane.{row-in}
+use Rattle.grid.proofs.Touch.{stage-on, stage-join}
 use Rattle.blur.proofs.Steps.{Added, column-none, column-three, column-more, column-all}
 use Rattle.blur.proofs.sum_columns.Statement.{statement}
 use Rattle.blur.proofs.sum_columns.Tie as tie

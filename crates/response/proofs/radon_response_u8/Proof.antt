@@ -5,22 +5,16 @@ use mir.Facts.{fits-le, fits-lit}
 use denote.Ref.{now}
 use lib.ListN.{length}
 use borrow.Author.Needs.{needs, fits-under}
-use Rattle.response.specs.Map.{Buffers, roomOf}
+use Rattle.response.specs.Map.{Buffers, mapLent, roomOf}
 use Rattle.response.specs.Runs.{Runs, runs-of, side-most}
 use Rattle.response.proofs.Cases.{room-by, number-zero, when-refused, when-accepted}
 use Rattle.response.proofs.radon_response_u8.Statement.{statement}
 use Rattle.response.proofs.radon_response_u8.Tie as tie
 
 abbrev lent : tie.Start → Buffers
-lent s = record {
-  working = now (s .args .working);
-  row = now (s .args .row);
-  col = now (s .args .col);
-  pos = now (s .args .pos);
-  neg = now (s .args .neg);
-  response = now (s .args .response);
-  scratch = now (s .args .scratch);
-}
+lent s =
+    mapLent (now (s .args .working)) (now (s .args .row)) (now (s .args .col)) (now (s .args .pos)) (now (s .args .neg))
+    (now (s .args .response)) (now (s .args .scratch))
 
 -- ---- the way back to the answer, and from there to the start
 

@@ -3,7 +3,7 @@ use mathlib.Core.Path.{refl}
 use Prim.Native.Nat.{_+_, _-_}
 use native.Mathlib.Omega.{arith}
 use lib.ListN.{getD}
-use Rattle.grid.specs.Loops.{Line, line-none, line-more, line-all}
+use Rattle.grid.proofs.Loops.{Line, line-none, line-more, line-all}
 use Rattle.upsample.proofs.copy.Statement.{statement}
 use Rattle.upsample.proofs.copy.Tie as tie
 

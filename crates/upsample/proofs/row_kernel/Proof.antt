@@ -3,7 +3,7 @@ use mathlib.Core.Path.{refl}
 use Prim.Native.Nat.{_+_, _-_, _*_, _≤_}
 use native.Mathlib.Omega.{arith}
 use lib.ListN.{getD, length-set}
-use Rattle.grid.specs.Loops.{Line, line-none}
+use Rattle.grid.proofs.Loops.{Line, line-none}
 use Rattle.upsample.specs.Kernel.{between}
 use Rattle.upsample.proofs.Steps.{line-two, line-last, line-empty}
 use Rattle.upsample.proofs.row_kernel.Statement.{statement}

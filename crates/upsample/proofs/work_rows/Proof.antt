@@ -3,8 +3,8 @@ use mathlib.Core.Path.{refl}
 use Prim.Native.Nat.{_-_, _*_}
 use native.Mathlib.Omega.{arith}
 use lib.ListN.{length, length-take, length-drop}
-use Rattle.grid.specs.Loops.{Rows, rows-none, rows-all}
-use Rattle.grid.specs.Part.{rows-part}
+use Rattle.grid.proofs.Loops.{Rows, rows-none, rows-all}
+use Rattle.grid.proofs.Part.{rows-part}
 use Rattle.grid.specs.Ways.{pixel}
 use Rattle.upsample.specs.Upsample.{workAt}
 use Rattle.upsample.proofs.Fits.{sides}

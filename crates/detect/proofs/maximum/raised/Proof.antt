@@ -2,7 +2,7 @@
 use mathlib.Core.Path.{refl}
 use Prim.Native.Nat.{_-_}
 use native.Mathlib.Omega.{arith}
-use Rattle.grid.specs.Fold.{Folding, folding-none, folding-more, folding-all}
+use Rattle.grid.proofs.Fold.{Folding, folding-none, folding-more, folding-all}
 use Rattle.detect.specs.Maximum.{entry, greater}
 use borrow.Author.Needs.{needs}
 use Rattle.detect.proofs.maximum.raised.Statement.{statement}

@@ -3,7 +3,7 @@ use mathlib.Core.Path.{refl}
 use Prim.Native.Nat.{_-_}
 use native.Mathlib.Omega.{arith}
 use lib.ListN.{getD}
-use Rattle.grid.specs.Span.{Spanning, spanning-none, spanning-more, spanning-all}
+use Rattle.grid.proofs.Span.{Spanning, spanning-none, spanning-more, spanning-all}
 use Rattle.rays.proofs.cumsums.begin.Statement.{statement}
 use Rattle.rays.proofs.cumsums.begin.Tie as tie
 

@@ -3,7 +3,7 @@ use mathlib.Core.Path.{_≡_, ap}
 use Prim.Native.Nat.{ℕ, _+_, _-_}
 use native.Mathlib.Omega.{arith}
 use lib.ListN.{getD}
-use Rattle.grid.specs.Span.{Spanning, spanning-none, spanning-more, spanning-all, spanning-before}
+use Rattle.grid.proofs.Span.{Spanning, spanning-none, spanning-more, spanning-all, spanning-before}
 use Rattle.rays.proofs.cumsums.carry.Statement.{statement}
 use Rattle.rays.proofs.cumsums.carry.Tie as tie
 

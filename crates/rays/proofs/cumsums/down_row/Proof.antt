@@ -1,7 +1,7 @@
 -- `down_row`: the first row begins each column, and another carries it on. Assumes nothing.
 use native.Mathlib.Omega.{arith}
 use borrow.Author.Needs.{needs}
-use Rattle.grid.specs.Plane.{row-above}
+use Rattle.grid.proofs.Plane.{row-above}
 use Rattle.rays.proofs.Strips.{strip-begun, strip-carried, strip-fits}
 use Rattle.rays.proofs.cumsums.down_row.Statement.{statement}
 use Rattle.rays.proofs.cumsums.down_row.Tie as tie

@@ -2,7 +2,7 @@
 use mathlib.Core.Path.{refl}
 use native.Mathlib.Omega.{arith}
 use borrow.Author.Needs.{needs}
-use Rattle.grid.specs.Plane.{row-above}
+use Rattle.grid.proofs.Plane.{row-above}
 use Rattle.grid.specs.Ways.{fall}
 use Rattle.rays.proofs.Running.{row-start, row-begun, row-carried, row-whole, row-fits}
 use Rattle.rays.proofs.cumsums.fall_row.Statement.{statement}

@@ -1,7 +1,7 @@
 -- `sat_diag_neg`: a turn fills row y, of an image with a column. Assumes nothing.
 use Prim.Native.Nat.{_-_}
 use native.Mathlib.Omega.{arith}
-use Rattle.grid.specs.Loops.{Rows, rows-none, rows-all}
+use Rattle.grid.proofs.Loops.{Rows, rows-none, rows-all}
 use Rattle.grid.specs.Ways.{pixel, rise}
 use Rattle.rays.specs.Tables.{tableAt}
 use Rattle.rays.proofs.Running.{above-of, rows-next, no-column}

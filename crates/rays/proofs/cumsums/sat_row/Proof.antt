@@ -1,7 +1,7 @@
 -- `sat_row`: a turn fills row y. Assumes nothing.
 use Prim.Native.Nat.{_-_}
 use native.Mathlib.Omega.{arith}
-use Rattle.grid.specs.Loops.{Rows, rows-none, rows-all}
+use Rattle.grid.proofs.Loops.{Rows, rows-none, rows-all}
 use Rattle.grid.specs.Ways.{pixel, along}
 use Rattle.rays.specs.Tables.{tableAt}
 use Rattle.rays.proofs.Running.{above-of, rows-next}

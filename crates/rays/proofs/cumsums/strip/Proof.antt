@@ -2,7 +2,7 @@
 use mathlib.Core.Path.{_≡_}
 use Prim.Native.Nat.{_-_, _≤_}
 use native.Mathlib.Omega.{arith}
-use Rattle.grid.specs.Plane.{row-in}
+use Rattle.grid.proofs.Plane.{row-in}
 use Rattle.grid.specs.Ways.{pixel, down}
 use Rattle.rays.specs.Tables.{tableAt}
 use Rattle.rays.specs.Passes.{Strip}

@@ -1,7 +1,7 @@
 -- `deep_part`: a turn stores the response of a pixel whose eight entries are in the image. Assumes nothing.
 use Prim.Native.Nat.{_+_, _-_}
 use native.Mathlib.Omega.{arith}
-use Rattle.grid.specs.Loops.{Line, line-none, line-more, line-all}
+use Rattle.grid.proofs.Loops.{Line, line-none, line-more, line-all}
 use Rattle.rays.specs.Shown.{readAt}
 use Rattle.rays.proofs.rays.deep_part.Statement.{statement}
 use Rattle.rays.proofs.rays.deep_part.Tie as tie

@@ -3,7 +3,8 @@ use mathlib.Core.Path.{_≡_, _∙_}
 use Prim.Native.Nat.{ℕ, _+_, _-_, _*_, _≤_}
 use native.Mathlib.Omega.{arith}
 use borrow.Author.Needs.{needs}
-use Rattle.grid.specs.Ways.{Way, along, down, fall, rise, ray, deep-inside}
+use Rattle.grid.specs.Ways.{Way, along, down, fall, rise, ray}
+use Rattle.grid.proofs.Ways.{deep-inside}
 use Rattle.rays.specs.Shown.{shown}
 use Rattle.rays.proofs.Inner.{response-in}
 use Rattle.rays.proofs.Showing.{DeepRays, deep-rays, deep-room, ray-small}

@@ -6,7 +6,8 @@ use native.Mathlib.Omega.{arith}
 use borrow.Author.Needs.{needs}
 use lib.ListN.{length, take, drop}
 use lib.Ieee.{Float}
-use Rattle.grid.specs.Fill.{filled, filled-zero, length-fill}
+use Rattle.grid.specs.Fill.{filled}
+use Rattle.grid.proofs.Fill.{filled-zero, length-fill}
 use Rattle.rays.specs.Shown.{readAt}
 use Rattle.rays.proofs.Parts.{part-long, part-more}
 use Rattle.rays.proofs.rays.deep_row.Statement.{statement}

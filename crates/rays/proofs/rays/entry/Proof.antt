@@ -3,8 +3,8 @@ use mathlib.Core.Path.{refl}
 use Prim.Native.Nat.{_+_, _-_, _*_, _≤_}
 use native.Mathlib.Omega.{arith}
 use borrow.Author.Needs.{needs}
-use Rattle.grid.specs.Plane.{row-in}
-use Rattle.grid.specs.Ways.{none-past, holds-at}
+use Rattle.grid.proofs.Plane.{row-in}
+use Rattle.grid.proofs.Ways.{none-past, holds-at}
 use Rattle.rays.proofs.rays.entry.Statement.{statement}
 use Rattle.rays.proofs.rays.entry.Tie as tie
 
