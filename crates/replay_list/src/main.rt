@@ -97,27 +97,10 @@ fn record(s: &[u8], at: usize) -> Compared {
     found(replay::part(s, file, list), s, list)
 }
 
-// The list of a file, over the program's buffers.
+// The list of a file, with the program's room.
 fn found(file: &[u8], s: &[u8], at: usize) -> Compared {
-    let mut working = [0u8; 2304];
-    let mut row = [0u32; 2304];
-    let mut col = [0u32; 2304];
-    let mut pos = [0u32; 2304];
-    let mut neg = [0u32; 2304];
-    let mut response = [0.0f32; 2304];
-    let mut scratch = [0.0f32; 2304];
     let mut list = [0.0f32; 768];
-    let outcome = runner::run(
-        file,
-        &mut working,
-        &mut row,
-        &mut col,
-        &mut pos,
-        &mut neg,
-        &mut response,
-        &mut scratch,
-        &mut list,
-    );
+    let outcome = frame_runner::run_with_room(file, &mut list);
     let first = sides(outcome, s, at);
     let many = capped(replay::word(s, replay::skip(s, at, 8)));
     then(first, corners(&list, many, s, first.next, gaussian(file)))

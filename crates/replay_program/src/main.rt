@@ -98,30 +98,12 @@ fn record(s: &[u8], at: usize) -> Compared {
     }
 }
 
-// What the program answers to a file, over buffers as the program declares them.
+// What the program answers to a file, from an array as the program reads it into.
 fn answered(file: &[u8], text: &[u8]) -> Compared {
     let mut input = [0u8; 2325];
     let got = put(file, &mut input);
-    let mut working = [0u8; 2304];
-    let mut row = [0u32; 2304];
-    let mut col = [0u32; 2304];
-    let mut pos = [0u32; 2304];
-    let mut neg = [0u32; 2304];
-    let mut response = [0.0f32; 2304];
-    let mut scratch = [0.0f32; 2304];
     let mut list = [0.0f32; 768];
-    let outcome = runner::answer(
-        &input,
-        got,
-        &mut working,
-        &mut row,
-        &mut col,
-        &mut pos,
-        &mut neg,
-        &mut response,
-        &mut scratch,
-        &mut list,
-    );
+    let outcome = frame_runner::answer(&input, got, &mut list);
     printed(outcome, &list, text, gaussian(file))
 }
 

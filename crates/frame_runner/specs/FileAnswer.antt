@@ -1,4 +1,4 @@
--- Document 01, "Frame file and printed list": what the program answers to a file. The answers of the file come before those of the finder.
+-- Document 01, "Frame file and printed list": what a file is answered. The answers of the file come before those of the finder.
 use mathlib.Core.List.{List}
 use Prim.Native.Nat.{ℕ}
 use lib.ListN.{drop}
@@ -8,7 +8,7 @@ use Rattle.params.specs.Answers.{refused}
 use Rattle.frame.specs.declared.Reading.{Reading}
 use Rattle.frame.specs.declared.Reading.the-variants.{Frame, Refused}
 use Rattle.frame.specs.FrameFile.{readOf}
-use Rattle.radon.specs.Finder.{Buffers, outcomeOf as finderOutcome, buffersOf as finderBuffers}
+use Rattle.radon.specs.Finder.{Buffers, outcomeOf, buffersOf}
 
 -- the eight buffers, in the order in which they are lent
 abbrev pub lent : List ℕ → List ℕ → List ℕ → List ℕ → List ℕ → List Float → List Float → List Float → Buffers
@@ -24,15 +24,15 @@ limit = 2324
 -- "Before the table above come, lowest first: 10 .. 14"; the pixels are what follows the 20 bytes of the fields
 abbrev pub outcomeFor : List ℕ → Buffers → Reading → Outcome
 outcomeFor file b (Refused answer) = refused answer
-outcomeFor file b (Frame h) = finderOutcome (drop 20 file) (h .width) (h .height) (h .params) b
+outcomeFor file b (Frame h) = outcomeOf (drop 20 file) (h .width) (h .height) (h .params) b
 
-unfoldable pub outcomeOf : List ℕ → Buffers → Outcome
-outcomeOf file b = outcomeFor file b (readOf limit file)
+unfoldable pub fileOutcome : List ℕ → Buffers → Outcome
+fileOutcome file b = outcomeFor file b (readOf limit file)
 
 -- "With every refusal, later ones too, .. no buffer changes"
 abbrev pub buffersFor : List ℕ → Buffers → Reading → Buffers
 buffersFor file b (Refused answer) = b
-buffersFor file b (Frame h) = finderBuffers (drop 20 file) (h .width) (h .height) (h .params) b
+buffersFor file b (Frame h) = buffersOf (drop 20 file) (h .width) (h .height) (h .params) b
 
-unfoldable pub buffersOf : List ℕ → Buffers → Buffers
-buffersOf file b = buffersFor file b (readOf limit file)
+unfoldable pub fileBuffers : List ℕ → Buffers → Buffers
+fileBuffers file b = buffersFor file b (readOf limit file)

@@ -8,7 +8,7 @@ use native.Mathlib.Nat.{zero-add, suc-add, mul-suc}
 use native.Mathlib.Omega.{arith}
 use borrow.Author.Tests.{lt-ltb, le-ltb}
 use lib.Ieee.{Float}
-use lib.ListN.{length, take, drop, length-take, length-replicate}
+use lib.ListN.{length, take, drop, length-take, replicate, length-replicate}
 use lib.Seq.{take-nil, take-take, take-all}
 use Rattle.grid.specs.Over.{written, length-over}
 use Rattle.float.specs.Values.{f0}
@@ -20,11 +20,11 @@ use Rattle.frame.specs.declared.Reading.the-variants.{Frame, Refused}
 use Rattle.frame.specs.FrameFile.{readOf}
 use Rattle.frame.specs.Printed.{refusedLine, cornerLines, stored, printed}
 use Rattle.response.specs.Map.{roomOf}
-use Rattle.radon.specs.Finder.{Buffers, answered, outcomeOf as finderOutcome, buffersOf as finderBuffers}
+use Rattle.radon.specs.Finder.{Buffers, answered, outcomeOf, buffersOf}
 use Rattle.radon.proofs.Left.{left-is}
 use Rattle.radon.proofs.Demands.{refusal-leaves-all, same-answer, same-list, list-is-corners}
-use Rattle.runner.specs.Run.{limit, outcomeFor, outcomeOf, buffersFor, buffersOf}
-use Rattle.runner.specs.Program.{zeros, linesOver, linesOf}
+use Rattle.frame_runner.specs.FileAnswer.{limit, outcomeFor, fileOutcome, buffersFor, fileBuffers}
+use Rattle.frame_runner.specs.Program.{blank, linesOver, linesOf}
 
 -- ---- the lines of a list: they are those of the numbers that are stored
 
@@ -77,10 +77,10 @@ listLength b = length (b .list)
 
 module _ (img : List ℕ) (w h : ℕ) (p : RadonDetectorParams) (b c : Buffers) (same : Alike b c) where
   abbrev answerOver : Buffers → Outcome
-  answerOver b = finderOutcome img w h p b
+  answerOver b = outcomeOf img w h p b
 
   abbrev listOver : Buffers → List Float
-  listOver b = (finderBuffers img w h p b) .list
+  listOver b = (buffersOf img w h p b) .list
 
   long : (b : Buffers) → numberOf (answered img w h p b) ≡ 0 → length (listOver b) ≡ listLength b
   long b z = ap listLength (left-is img w h p b z) ∙ written-long _ _ _ (b .list)
@@ -115,49 +115,24 @@ module _ (file : List ℕ) (b c : Buffers) (same : Alike b c) where
 
   -- "What a buffer held before the call changes no answer and no written number": nor any line
   pub same-lines : linesOver b file ≡ linesOver c file
-  unfolding linesOver outcomeOf buffersOf
+  unfolding linesOver fileOutcome fileBuffers
   same-lines = lines-for (readOf limit file)
 
--- buffers for n working pixels and k corners
-pub record Sized (n k : ℕ) (b : Buffers) : Type 0 where
-  pub working : length (b .map .working) ≡ n
-  pub row : length (b .map .row) ≡ n
-  pub col : length (b .map .col) ≡ n
-  pub pos : length (b .map .pos) ≡ n
-  pub neg : length (b .map .neg) ≡ n
-  pub response : length (b .map .response) ≡ n
-  pub scratch : length (b .map .scratch) ≡ n
-  pub list : length (b .list) ≡ 3 * k
-
-room-is : (n k : ℕ) (b : Buffers) → Sized n k b → roomOf (b .map) ≡ n
-room-is n k b s = rw (s .working, s .row, s .col, s .pos, s .neg, s .response, s .scratch) (omega arith)
-
-sized-zeros : (n k : ℕ) → Sized n k (zeros n k)
-unfolding zeros
-sized-zeros n k = record {
-  working = length-replicate n 0;
-  row = length-replicate n 0;
-  col = length-replicate n 0;
-  pos = length-replicate n 0;
-  neg = length-replicate n 0;
-  response = length-replicate n f0;
-  scratch = length-replicate n f0;
-  list = length-replicate (3 * k) f0;
-}
-
-lines-sized : (n k : ℕ) (b : Buffers) → Sized n k b → (file : List ℕ) → linesOver b file ≡ linesOver (zeros n k) file
-lines-sized n k b s file =
-    let z = sized-zeros n k in
-    same-lines file b (zeros n k) (record { room = room-is n k b s ∙ sym (room-is n k (zeros n k) z); list = s .list ∙ sym (z .list) })
+-- over work buffers with zeros in them, and a list for k corners whatever it held
+lines-blank : (n k : ℕ) (list : List Float) → length list ≡ 3 * k → (file : List ℕ)
+    → linesOver (blank n list) file ≡ linesOver (blank n (replicate (3 * k) f0)) file
+unfolding blank
+lines-blank n k list long file =
+    same-lines file (blank n list) (blank n (replicate (3 * k) f0)) (record { room = refl; list = long ∙ sym (length-replicate (3 * k) f0) })
 
 -- "10 over 2,324 bytes": `refused 10`
 pub too-long-lines : (file : List ℕ) → limit < length file → linesOf file ≡ refusedLine 10 ∷ []
-unfolding linesOf linesOver outcomeOf buffersOf readOf printed
+unfolding linesOf linesOver fileOutcome fileBuffers readOf printed
 too-long-lines file h = rw (lt-ltb limit (length file) h)
 
 -- "11 under 20 bytes": `refused 11`, an empty file too
 pub too-short-lines : (file : List ℕ) → length file < 20 → linesOf file ≡ refusedLine 11 ∷ []
-unfolding linesOf linesOver outcomeOf buffersOf readOf printed
+unfolding linesOf linesOver fileOutcome fileBuffers readOf printed
 too-short-lines file h = rw (le-ltb limit (length file) (omega arith), lt-ltb (length file) 20 h)
 
 -- 2,325 bytes are enough: a file of any length prints the lines of its first 2,325 bytes
@@ -175,22 +150,25 @@ whole-file : (file input : List ℕ) (got : ℕ) → length input ≡ 2325 → t
     → linesOf (take got input) ≡ linesOf file
 whole-file file input got n e = ap linesOf (sym (rw n at e)) ∙ sym (opening-bytes-enough file)
 
--- over buffers of the program's sizes, what `run` answers and leaves is what the program prints: of what was read, and of the file it was read from
-module _ (b : Buffers) (sizes : Sized 2304 256 b) (input : List ℕ) (got : ℕ) (long : length input ≡ 2325) where
+-- with room as the program has it, the outcome and the list that is left print the file's lines, whatever the list held
+program-lines : (old : List Float) → length old ≡ 3 * 256 → (file : List ℕ) {o : Outcome} {left : List Float}
+    → o ≡ fileOutcome file (blank 2304 old) → left ≡ (fileBuffers file (blank 2304 old)) .list → printed 3 o left ≡ linesOf file
+unfolding linesOver linesOf
+program-lines old long file p q = rw (p, q) (lines-blank 2304 256 old long file)
+
+-- what was read, run with room: the same of the bytes of the array, and the lines of the file they were read from
+module _ (input : List ℕ) (got : ℕ) (long : length input ≡ 2325) (old : List Float) (room : length old ≡ 3 * 256) where
   abbrev file : List ℕ
   file = take got input
 
-  pub record Answers (o : Outcome) (after : Buffers) : Type 0 where
-    pub answer : o ≡ outcomeOf file b
-    pub left : after ≡ buffersOf file b
-    pub lines : printed 3 o (after .list) ≡ linesOf file
-    pub whole : (f : List ℕ) → take (length input) f ≡ file → printed 3 o (after .list) ≡ linesOf f
-
-  pub answers : {read : List ℕ} → read ≡ file → {o : Outcome} {after : Buffers}
-      → o ≡ outcomeOf read b → after ≡ buffersOf read b → Answers o after
-  unfolding linesOver linesOf
-  answers e {o} {after} p q =
-      let answer : o ≡ outcomeOf file b = p ∙ ap (λ (f : List ℕ). outcomeOf f b) e in
-      let left : after ≡ buffersOf file b = q ∙ ap (λ (f : List ℕ). buffersOf f b) e in
-      let lines : printed 3 o (after .list) ≡ linesOf file = rw (answer, left) (lines-sized 2304 256 b sizes file) in
-      record { answer = answer; left = left; lines = lines; whole = λ f h. lines ∙ whole-file f input got long h }
+  pub as-read : {read : List ℕ} {o : Outcome} {left : List Float} → read ≡ file
+      → (o ≡ fileOutcome read (blank 2304 old)) × (left ≡ (fileBuffers read (blank 2304 old)) .list)
+      → (o ≡ fileOutcome file (blank 2304 old))
+      × ((left ≡ (fileBuffers file (blank 2304 old)) .list)
+      × ((printed 3 o left ≡ linesOf file)
+      × ((whole : List ℕ) → take (length input) whole ≡ file → printed 3 o left ≡ linesOf whole)))
+  as-read {o = o} {left = left} e (p, q) =
+      let answer : o ≡ fileOutcome file (blank 2304 old) = p ∙ ap (λ (f : List ℕ). fileOutcome f (blank 2304 old)) e in
+      let list : left ≡ (fileBuffers file (blank 2304 old)) .list = q ∙ ap (λ (f : List ℕ). (fileBuffers f (blank 2304 old)) .list) e in
+      let lines : printed 3 o left ≡ linesOf file = program-lines old room file answer list in
+      (answer, (list, (lines, λ whole h. lines ∙ whole-file whole input got long h)))

@@ -10,19 +10,19 @@ use Rattle.frame.specs.declared.Header.{Header}
 use Rattle.frame.specs.declared.Reading.{Reading}
 use Rattle.frame.specs.declared.Reading.the-variants.{Frame, Refused}
 use Rattle.frame.specs.FrameFile.{readOf}
-use Rattle.radon.specs.Finder.{Buffers, outcomeOf as finderOutcome, buffersOf as finderBuffers}
-use Rattle.runner.specs.Run.{limit, outcomeFor, outcomeOf, buffersFor, buffersOf}
+use Rattle.radon.specs.Finder.{Buffers, outcomeOf, buffersOf}
+use Rattle.frame_runner.specs.FileAnswer.{limit, outcomeFor, fileOutcome, buffersFor, fileBuffers}
 
 module _ (file : List ℕ) (b : Buffers) {r : Reading} (is : r ≡ readOf limit file) where
-  pub when-refused : {o : Outcome} (a : Answer) → r ≡ Refused a → o ≡ refused a → (o ≡ outcomeOf file b) × (b ≡ buffersOf file b)
-  unfolding outcomeOf buffersOf
+  pub when-refused : {o : Outcome} (a : Answer) → r ≡ Refused a → o ≡ refused a → (o ≡ fileOutcome file b) × (b ≡ fileBuffers file b)
+  unfolding fileOutcome fileBuffers
   when-refused a e h = (h ∙ ap (outcomeFor file b) (sym e ∙ is), ap (buffersFor file b) (sym e ∙ is))
 
   pub when-read : {o : Outcome} {after : Buffers} (pixels : List ℕ) (h : Header) → r ≡ Frame h → pixels ≡ drop 20 file
-      → o ≡ finderOutcome pixels (h .width) (h .height) (h .params) b → after ≡ finderBuffers pixels (h .width) (h .height) (h .params) b
-      → (o ≡ outcomeOf file b) × (after ≡ buffersOf file b)
-  unfolding outcomeOf buffersOf
+      → o ≡ outcomeOf pixels (h .width) (h .height) (h .params) b → after ≡ buffersOf pixels (h .width) (h .height) (h .params) b
+      → (o ≡ fileOutcome file b) × (after ≡ fileBuffers file b)
+  unfolding fileOutcome fileBuffers
   when-read pixels h e p answer buffers = (
-    answer ∙ ap (λ (l : List ℕ). finderOutcome l (h .width) (h .height) (h .params) b) p ∙ ap (outcomeFor file b) (sym e ∙ is),
-    buffers ∙ ap (λ (l : List ℕ). finderBuffers l (h .width) (h .height) (h .params) b) p ∙ ap (buffersFor file b) (sym e ∙ is),
+    answer ∙ ap (λ (l : List ℕ). outcomeOf l (h .width) (h .height) (h .params) b) p ∙ ap (outcomeFor file b) (sym e ∙ is),
+    buffers ∙ ap (λ (l : List ℕ). buffersOf l (h .width) (h .height) (h .params) b) p ∙ ap (buffersFor file b) (sym e ∙ is),
   )
