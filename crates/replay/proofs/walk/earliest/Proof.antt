@@ -1,7 +1,7 @@
--- `replay::earliest` meets its contract: by the test. Assumes nothing.
+-- `replay::walk::earliest` meets its contract: by the test. Assumes nothing.
 use borrow.Author.Tests.{eq-eqb, ne-eqb}
-use Rattle.replay.proofs.earliest.Statement.{statement}
-use Rattle.replay.proofs.earliest.Tie as tie
+use Rattle.replay.proofs.walk.earliest.Statement.{statement}
+use Rattle.replay.proofs.walk.earliest.Tie as tie
 
 returns : tie.Need-returns
 returns c = rw (eq-eqb _ _ (c .if1 .taken))

@@ -1,8 +1,8 @@
--- `replay::with` meets its contract: a record more, that agrees or not. Assumes nothing.
+-- `replay::walk::with` meets its contract: a record more, that agrees or not. Assumes nothing.
 use Rattle.replay.proofs.Counting.{agrees, disagrees}
 use borrow.Author.Needs.{needs}
-use Rattle.replay.proofs.with.Statement.{statement}
-use Rattle.replay.proofs.with.Tie as tie
+use Rattle.replay.proofs.walk.with.Statement.{statement}
+use Rattle.replay.proofs.walk.with.Tie as tie
 
 plus-requires : tie.Need-plus-requires
 plus-requires c κs = search needs
