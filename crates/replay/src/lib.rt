@@ -192,7 +192,8 @@ pub fn plus(a: usize, b: usize) -> usize
 
 // A number that a list states, and 0 where it is more than may be.
 pub fn capped(n: u64, most: usize) -> usize
-    ensures { λ r. ⌜ r ≡ cond (leb n most) n 0 ⌝ }
+    ensures value { λ r. ⌜ r ≡ cond (leb n most) n 0 ⌝ }
+    ensures within { λ r. ⌜ r ≤ most ⌝ }
 {
     if n <= most as u64 { n as usize } else { 0 }
 }

@@ -3,6 +3,7 @@
 // which beyond.
 use libc::STDIN_FILENO;
 use params::Outcome;
+use replay::Walk;
 
 // No record has more corners than the program's list takes.
 const MOST: usize = 256;
@@ -55,6 +56,10 @@ fn replayed(s: &[u8]) {
         walk = replay::after(walk, c.next, c.wrong);
         all = then(all, c);
     }
+    report(s, walk, all);
+}
+
+fn report(s: &[u8], walk: Walk, all: Compared) {
     replay::head(s, walk);
     replay::say(b"Gaussian places equal to the bit", all.equal);
     replay::say(b"Gaussian places within 0.001", all.near);

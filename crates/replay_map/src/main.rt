@@ -2,6 +2,7 @@
 use frame::Reading;
 use libc::STDIN_FILENO;
 use replay::Compared;
+use replay::Walk;
 use response::Mapped;
 
 // No frame file of the list is longer.
@@ -22,6 +23,10 @@ fn replayed(s: &[u8]) {
         walk = replay::after(walk, c.next, c.wrong);
         values = replay::plus(values, c.values);
     }
+    report(s, walk, values);
+}
+
+fn report(s: &[u8], walk: Walk, values: usize) {
     replay::head(s, walk);
     replay::say(b"values compared", values);
 }

@@ -5,6 +5,7 @@ ghost use Prim.Native.Nat.{min};
 ghost use lib.ListN.{length, take};
 use libc::STDIN_FILENO;
 use params::Outcome;
+use replay::Walk;
 
 // Where a corner's line has its strength, and how long that line is.
 const STRENGTH: usize = 18;
@@ -37,6 +38,10 @@ fn replayed(s: &[u8]) {
         lists = replay::plus(lists, replay::differ(c.places as u64, 0));
         places = replay::plus(places, c.places);
     }
+    report(s, walk, exact, lists, places);
+}
+
+fn report(s: &[u8], walk: Walk, exact: usize, lists: usize, places: usize) {
     replay::head(s, walk);
     replay::say(b"records that agree to the bit", exact);
     replay::say(b"Gaussian lists in which places differ", lists);

@@ -5,10 +5,10 @@ use Rattle.replay_list.proofs.replayed.Statement.{statement}
 use Rattle.replay_list.proofs.replayed.Tie as tie
 
 abbrev Inv-loop : tie.InvT-loop
-Inv-loop s walk₀ all₀ go walk all = Unit {0}
+Inv-loop s walk₀ all₀ walk all = Unit {0}
 
 abbrev μ-loop : tie.MeasureT-loop
-μ-loop s walk₀ all₀ go walk all = walk .left
+μ-loop s walk₀ all₀ walk all = walk .left
 
 -- from the end of a turn back to its record's count
 abbrev walked : tie.After-then Inv-loop μ-loop → tie.After-after Inv-loop μ-loop
@@ -44,26 +44,8 @@ loop-less c =
 loop-again : tie.Need-loop-again Inv-loop μ-loop
 loop-again c = search needs
 
-head-requires : tie.Need-head-requires Inv-loop μ-loop
-head-requires c κs = search needs
-
-slice-aggregate-say : tie.Need-slice-aggregate-say Inv-loop μ-loop
-slice-aggregate-say c = search needs
-
-say-requires : tie.Need-say-requires Inv-loop μ-loop
-say-requires c κs = search needs
-
-slice-aggregate-say-2 : tie.Need-slice-aggregate-say-2 Inv-loop μ-loop
-slice-aggregate-say-2 c = search needs
-
-say-requires-2 : tie.Need-say-requires-2 Inv-loop μ-loop
-say-requires-2 c κs = search needs
-
-slice-aggregate-say-3 : tie.Need-slice-aggregate-say-3 Inv-loop μ-loop
-slice-aggregate-say-3 c = search needs
-
-say-requires-3 : tie.Need-say-requires-3 Inv-loop μ-loop
-say-requires-3 c κs = search needs
+report-requires : tie.Need-report-requires Inv-loop μ-loop
+report-requires c κs = search needs
 
 returns : tie.Need-returns Inv-loop μ-loop
 returns c = search needs
@@ -83,11 +65,5 @@ replayed-spec =
     then-requires
     loop-less
     loop-again
-    head-requires
-    slice-aggregate-say
-    say-requires
-    slice-aggregate-say-2
-    say-requires-2
-    slice-aggregate-say-3
-    say-requires-3
+    report-requires
     returns)

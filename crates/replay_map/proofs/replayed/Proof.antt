@@ -5,10 +5,10 @@ use Rattle.replay_map.proofs.replayed.Statement.{statement}
 use Rattle.replay_map.proofs.replayed.Tie as tie
 
 abbrev Inv-loop : tie.InvT-loop
-Inv-loop s walk₀ values₀ go walk values = Unit {0}
+Inv-loop s walk₀ values₀ walk values = Unit {0}
 
 abbrev μ-loop : tie.MeasureT-loop
-μ-loop s walk₀ values₀ go walk values = walk .left
+μ-loop s walk₀ values₀ walk values = walk .left
 
 -- from the end of a turn back to its record's count
 abbrev walked : tie.After-plus Inv-loop μ-loop → tie.After-after Inv-loop μ-loop
@@ -41,14 +41,8 @@ loop-less c =
 loop-again : tie.Need-loop-again Inv-loop μ-loop
 loop-again c = search needs
 
-head-requires : tie.Need-head-requires Inv-loop μ-loop
-head-requires c κs = search needs
-
-slice-aggregate-say : tie.Need-slice-aggregate-say Inv-loop μ-loop
-slice-aggregate-say c = search needs
-
-say-requires : tie.Need-say-requires Inv-loop μ-loop
-say-requires c κs = search needs
+report-requires : tie.Need-report-requires Inv-loop μ-loop
+report-requires c κs = search needs
 
 returns : tie.Need-returns Inv-loop μ-loop
 returns c = search needs
@@ -67,7 +61,5 @@ replayed-spec =
     plus-requires
     loop-less
     loop-again
-    head-requires
-    slice-aggregate-say
-    say-requires
+    report-requires
     returns)

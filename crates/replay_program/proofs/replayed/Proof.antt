@@ -5,10 +5,10 @@ use Rattle.replay_program.proofs.replayed.Statement.{statement}
 use Rattle.replay_program.proofs.replayed.Tie as tie
 
 abbrev Inv-loop : tie.InvT-loop
-Inv-loop s walk₀ exact₀ lists₀ places₀ go walk exact lists places = Unit {0}
+Inv-loop s walk₀ exact₀ lists₀ places₀ walk exact lists places = Unit {0}
 
 abbrev μ-loop : tie.MeasureT-loop
-μ-loop s walk₀ exact₀ lists₀ places₀ go walk exact lists places = walk .left
+μ-loop s walk₀ exact₀ lists₀ places₀ walk exact lists places = walk .left
 
 -- from the end of a turn back to its record's count
 abbrev walked : tie.After-plus3 Inv-loop μ-loop → tie.After-after Inv-loop μ-loop
@@ -53,26 +53,8 @@ loop-less c =
 loop-again : tie.Need-loop-again Inv-loop μ-loop
 loop-again c = search needs
 
-head-requires : tie.Need-head-requires Inv-loop μ-loop
-head-requires c κs = search needs
-
-slice-aggregate-say : tie.Need-slice-aggregate-say Inv-loop μ-loop
-slice-aggregate-say c = search needs
-
-say-requires : tie.Need-say-requires Inv-loop μ-loop
-say-requires c κs = search needs
-
-slice-aggregate-say-2 : tie.Need-slice-aggregate-say-2 Inv-loop μ-loop
-slice-aggregate-say-2 c = search needs
-
-say-requires-2 : tie.Need-say-requires-2 Inv-loop μ-loop
-say-requires-2 c κs = search needs
-
-slice-aggregate-say-3 : tie.Need-slice-aggregate-say-3 Inv-loop μ-loop
-slice-aggregate-say-3 c = search needs
-
-say-requires-3 : tie.Need-say-requires-3 Inv-loop μ-loop
-say-requires-3 c κs = search needs
+report-requires : tie.Need-report-requires Inv-loop μ-loop
+report-requires c κs = search needs
 
 returns : tie.Need-returns Inv-loop μ-loop
 returns c = search needs
@@ -95,11 +77,5 @@ replayed-spec =
     plus-requires-3
     loop-less
     loop-again
-    head-requires
-    slice-aggregate-say
-    say-requires
-    slice-aggregate-say-2
-    say-requires-2
-    slice-aggregate-say-3
-    say-requires-3
+    report-requires
     returns)
