@@ -11,10 +11,13 @@ use lib.Dec.{T, eqb, eqb·suc-zero}
 use lib.ListN.{length, getD, length-set}
 use lib.Seq.{getD-set-same, getD-set-other}
 use lib.Ieee.{Float, nan, binary32, add, ofInt, ofBits, toBits, fits}
-use Rattle.float.specs.Computed.{every, every-at, alike, alike-same}
-use Rattle.grid.specs.Fill.{filled, filled-intro, filled-zero}
-use Rattle.grid.specs.Plane.{plane, getD-plane, pixel-in, row-in, next-row, column-in, row-number-in}
-use Rattle.grid.specs.Fold.{fold-none, fold-on, fsum}
+use Rattle.float.proofs.Computed.{every, every-at, alike, alike-same}
+use Rattle.grid.specs.Fill.{filled}
+use Rattle.grid.proofs.Fill.{filled-intro, filled-zero}
+use Rattle.grid.specs.Plane.{plane}
+use Rattle.grid.proofs.Plane.{getD-plane, pixel-in, row-in, next-row, column-in, row-number-in}
+use Rattle.grid.specs.Fold.{fsum}
+use Rattle.grid.proofs.Fold.{fold-none, fold-on}
 use Rattle.response.specs.Blur.{valueAt, counted, windowSum, rowMean, columnMean, blurAt, scratched}
 use Rattle.as_rust.specs.Machine.{Machine, _⊕_, _⊗_, _⊘_, lit-0, lit-1, as-f32, float-at, put, for, chunks}
 use Rattle.as_rust.specs.Primitives.{horiz-px, horiz-kernel, vert-kernel, box-blur-inplace}

@@ -14,7 +14,7 @@ use lib.Ieee.Fits.{down-pos}
 use lib.Ieee.Exact.{HasValue, round-exact}
 use lib.Ieee.Back.{round-whole}
 use lib.Ieee.Nearest.{div-same}
-use Rattle.float.specs.Order.{no-factor}
+use Rattle.float.proofs.Order.{no-factor}
 use Rattle.as_rust.specs.Machine.{_⊕_, _⊖_, _⊗_, floor, rounded, clamp, maxℤ, as-usize, as-f32, to-isize, to-u8}
 
 -- the fraction n / d with the sign s is (a - b) / c

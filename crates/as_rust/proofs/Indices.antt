@@ -2,7 +2,7 @@
 -- Assumes nothing.
 use Prim.Native.Nat.{ℕ, _+_, _-_, _*_, _/_, _≤_, _<_, min}
 use native.Mathlib.Omega.{arith}
-use Rattle.grid.specs.Plane.{pixel-in}
+use Rattle.grid.proofs.Plane.{pixel-in}
 use Rattle.grid.specs.Ways.{Inside}
 use Rattle.response.specs.Upsample.{after}
 use Rattle.as_rust.proofs.Neighbors.{Clear}

@@ -7,9 +7,11 @@ use native.Mathlib.Numerals.{add-one}
 use native.Mathlib.Omega.{arith}
 use lib.ListN.{length}
 use Rattle.grid.specs.Fill.{filled}
-use Rattle.grid.specs.Plane.{plane, row-of, row-in}
-use Rattle.grid.specs.Loops.{Rows, Row, Line, rows-none, row-none, row-more, rows-more, rows-all, line-none, line-more, line-all}
-use Rattle.grid.specs.Rect.{Place, place, rect, before, rect-none, before-first, before-more, before-last}
+use Rattle.grid.specs.Plane.{plane}
+use Rattle.grid.proofs.Plane.{row-of, row-in}
+use Rattle.grid.proofs.Loops.{Rows, Row, Line, rows-none, row-none, row-more, rows-more, rows-all, line-none, line-more, line-all}
+use Rattle.grid.specs.Rect.{Place, place, rect}
+use Rattle.grid.proofs.Rect.{before, rect-none, before-first, before-more, before-last}
 use Rattle.as_rust.specs.Machine.{put, times, for, chunks}
 use Rattle.as_rust.proofs.Machine.{put-is}
 

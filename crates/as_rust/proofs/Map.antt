@@ -11,10 +11,13 @@ use lib.Dec.{ltb, leb}
 use lib.ListN.{length, getD, take, List·getD-eq-default}
 use lib.IntN.{ℤ, pos}
 use lib.Ieee.{Float, nan}
-use Rattle.grid.specs.Fill.{filled, filled-intro, getD-filled, length-filled, filled-filled}
-use Rattle.grid.specs.Plane.{plane, plane-ext, getD-plane, pixel-in}
-use Rattle.grid.specs.Ways.{Way, along, down, fall, rise, pixel, runSum, run-ext}
-use Rattle.params.specs.declared.RadonDetectorParams.{RadonDetectorParams}
+use Rattle.grid.specs.Fill.{filled}
+use Rattle.grid.proofs.Fill.{filled-intro, getD-filled, length-filled, filled-filled}
+use Rattle.grid.specs.Plane.{plane}
+use Rattle.grid.proofs.Plane.{plane-ext, getD-plane, pixel-in}
+use Rattle.grid.specs.Ways.{Way, along, down, fall, rise, pixel, runSum}
+use Rattle.grid.proofs.Ways.{run-ext}
+use Rattle.params.specs.declared.settings.RadonDetectorParams.{RadonDetectorParams}
 use Rattle.params.specs.Settings.{factorOf, rayOf}
 use Rattle.response.specs.Upsample.{upAt, workAt}
 use Rattle.response.specs.Quarter.{work-most}
@@ -24,10 +27,11 @@ use Rattle.response.specs.Blur.{valueAt, rowMean, blurAt, scratched}
 use Rattle.response.specs.BlurLaws.{rowMean-ext, blurAt-ext}
 use Rattle.response.specs.Runs.{Runs, side-most}
 use Rattle.response.specs.Map.{Buffers, rawAt, mapAt, mappedBy, mapped, sideOf}
+use Rattle.radon.specs.Finder.{Bytes}
 use Rattle.as_rust.specs.Machine.{Machine, usize, copy-from-slice, resize}
 use Rattle.as_rust.specs.Response.{RadonBuffers, Cumsums, image-upsample-clamped, ensure-capacity, upsample-bilinear-2x, sat-row, sat-col, sat-diag-pos, sat-diag-neg, compute-response, radon-response-u8}
 use Rattle.as_rust.specs.Primitives.{box-blur-inplace}
-use Rattle.as_rust.specs.Runs.{Bytes, SameMap}
+use Rattle.as_rust.specs.Runs.{SameMap}
 use Rattle.as_rust.proofs.Machine.{usize-is, copy-is, resize-long}
 use Rattle.as_rust.proofs.Upsample.{upsample-as-rust}
 use Rattle.as_rust.proofs.Tables.{run, Image, Sums, sums-fill, row-sums, column-sums, falling-sums, rising-sums}

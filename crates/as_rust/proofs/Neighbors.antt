@@ -10,10 +10,12 @@ use lib.Dec.{ltb, eqb}
 use lib.ListN.{length}
 use lib.IntN.{ℤ, pos, negsuc, negℤ, _+ℤ_, _-ℤ_, +ℤ-assoc, +ℤ-comm}
 use lib.Ieee.{Float, nan, lt}
-use Rattle.grid.specs.Plane.{pixel-in}
-use Rattle.grid.specs.Each.{any, any-none, any-append, count, count-none, count-yes, count-no, count-most}
-use Rattle.grid.specs.Rect.{Place, place, before, length-before}
-use Rattle.float.specs.Order.{lt-itself}
+use Rattle.grid.proofs.Plane.{pixel-in}
+use Rattle.grid.specs.Each.{any, count}
+use Rattle.grid.proofs.Each.{any-none, any-append, count-none, count-yes, count-no, count-most}
+use Rattle.grid.specs.Rect.{Place, place}
+use Rattle.grid.proofs.Rect.{before, length-before}
+use Rattle.float.proofs.Order.{lt-itself}
 use Rattle.detect.specs.Window.{value, at, same, beaten, positives}
 use Rattle.as_rust.specs.Machine.{Machine, lit-0, is-0, i32, u32, float-at, for, how-many, for-signed, as-i32, as-usize}
 use Rattle.as_rust.specs.Neighbors.{outside, is-local-max, count-positive-neighbors}

@@ -13,8 +13,9 @@ use lib.IntN.{ℤ, pos, _-ℤ_, pos-+ℤ-pos, +ℤ-negℤ-cancel}
 use lib.Ieee.{Float}
 use Rattle.grid.specs.Fill.{filled}
 use Rattle.grid.specs.Plane.{plane}
-use Rattle.grid.specs.Loops.{Row}
-use Rattle.grid.specs.Ways.{Way, along, down, fall, rise, pixel, upTo, ray, Inside, endx, endy, lowx, lowy, Reach, none-past, run-at, ray-is, ray-most}
+use Rattle.grid.proofs.Loops.{Row}
+use Rattle.grid.specs.Ways.{Way, along, down, fall, rise, pixel, upTo, ray, Inside, Reach}
+use Rattle.grid.proofs.Ways.{endx, endy, lowx, lowy, none-past, run-at, ray-is, ray-most}
 use Rattle.response.specs.Response.{spread, square, responseAt}
 use Rattle.response.specs.Inner.{response-in, response-out}
 use Rattle.as_rust.specs.Machine.{Machine, lit-0, ltℤ, sat, less, entry-at, put, for, chunks}

@@ -11,10 +11,13 @@ use lib.Dec.{ltb}
 use lib.ListN.{length, getD, length-set}
 use lib.Seq.{getD-set-same, getD-set-other}
 use lib.IntN.{ℤ, pos, _+ℤ_, pos-+ℤ-pos}
-use Rattle.grid.specs.Fill.{filled, filled-intro, length-filled}
-use Rattle.grid.specs.Plane.{plane, getD-plane, pixel-in, row-above, row-of, column-of, column-in, row-number-in}
-use Rattle.grid.specs.Loops.{Row, row-read}
-use Rattle.grid.specs.Ways.{Way, along, down, fall, rise, pixel, upTo, runSum, prevx, prevy, Reach, none-past, run-on, run-at, run-most}
+use Rattle.grid.specs.Fill.{filled}
+use Rattle.grid.proofs.Fill.{filled-intro, length-filled}
+use Rattle.grid.specs.Plane.{plane}
+use Rattle.grid.proofs.Plane.{getD-plane, pixel-in, row-above, row-of, column-of, column-in, row-number-in}
+use Rattle.grid.proofs.Loops.{Row, row-read}
+use Rattle.grid.specs.Ways.{Way, along, down, fall, rise, pixel, upTo, runSum, Reach}
+use Rattle.grid.proofs.Ways.{prevx, prevy, none-past, run-on, run-at, run-most}
 use Rattle.as_rust.specs.Machine.{Machine, sat, usize, less, byte-at, entry-at, put}
 use Rattle.as_rust.specs.Response.{sat-row, sat-col, sat-diag-pos, sat-diag-neg}
 use Rattle.as_rust.proofs.Machine.{usize-is, less-is, sat-is, inside, put-is}

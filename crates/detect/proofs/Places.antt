@@ -10,18 +10,18 @@ use lib.Ieee.{Float, binary32, ofBits, ofInt, add, mul, le}
 use lib.Ieee.Exact.{HasValue}
 use lib.Ieee.Scale.{finite}
 use Rattle.float.specs.Values.{f0, f1}
-use Rattle.float.specs.Ranged.{Ranged, exact, ranged-whole, ranged-wider, ranged-finite, ranged-above, ranged-most, mul-ranged}
-use Rattle.float.specs.Shifted.{Within, within-of-le, add-within, held-whole}
+use Rattle.float.proofs.Ranged.{Ranged, exact, ranged-whole, ranged-wider, ranged-finite, ranged-above, ranged-most, mul-ranged}
+use Rattle.float.proofs.Shifted.{Within, within-of-le, add-within, held-whole}
 use Rattle.grid.specs.Rect.{Place}
-use Rattle.grid.specs.All.{all, all-keep, all-rect, InRect}
-use Rattle.params.specs.declared.RadonDetectorParams.{RadonDetectorParams}
+use Rattle.grid.proofs.All.{all, all-keep, all-rect, InRect}
+use Rattle.params.specs.declared.settings.RadonDetectorParams.{RadonDetectorParams}
 use Rattle.params.specs.Settings.{factorOf}
 use Rattle.params.specs.Coordinates.{toInput}
 use Rattle.detect.specs.Window.{at}
-use Rattle.detect.specs.Above.{entry}
+use Rattle.detect.specs.Maximum.{entry}
 use Rattle.detect.specs.PeakFit.{half, minusHalf}
 use Rattle.detect.specs.Corners.{borderOf, corners, offsetX, offsetY, inputAt, numbers}
-use Rattle.detect.proofs.Offsets.{Central, fit-central}
+use Rattle.peak_fit.proofs.Offsets.{Central, fit-central}
 
 -- ---- one coordinate
 

@@ -1,9 +1,2 @@
--- Laws of f32 arithmetic: constants, rules proved by computing, bounds on a result's size, order, products, whole numbers.
+-- The constants of f32 that definitions name.
 pub mod Values
-pub mod Computed
-pub mod Sized
-pub mod Ranged
-pub mod Shifted
-pub mod Order
-pub mod Product
-pub mod Whole

@@ -10,12 +10,12 @@ use lib.Dec.{eqb}
 use lib.Ieee.{Float}
 use lib.ListN.{length, getD, take, drop, length-append, List·getD-append, List·getD-eq-default}
 use lib.Seq.{getD-append-add, drop-drop, drop-cons}
-use Rattle.params.specs.declared.Outcome.{Outcome}
+use Rattle.params.specs.declared.answers.Outcome.{Outcome}
 use Rattle.params.specs.Answers.{numberOf}
 use Rattle.frame.specs.declared.Line.{Line}
 use Rattle.frame.specs.Printed.{refusedLine, firstLine, cornerLine, cornerLines, stored, fullLine, lastLines, printed}
-use Rattle.frame.specs.Lines.{Shows}
-use Rattle.frame.specs.Appended.{blank, shows}
+use Rattle.frame.specs.Lines.{Shows, blank}
+use Rattle.frame.proofs.Appended.{shows}
 
 -- ---- the corners' lines
 

@@ -1,8 +1,24 @@
 -- Document 01, "What comes back" and "Frame file and printed list": the number of each answer.
 use Prim.Native.Nat.{ℕ}
-use Rattle.params.specs.declared.Answer.{Answer}
-use Rattle.params.specs.declared.Outcome.{Outcome}
-use Rattle.params.specs.declared.Answer.the-variants.{Complete, ListFull, SideTooLong, ImageLength, TooManyPixels, RayRadius, BlurRadius, SuppressionRadius, Threshold, BufferTooShort, FileTooLong, FileTooShort, Version, StatedLength, Mode}
+use Rattle.params.specs.declared.answers.Answer.{Answer}
+use Rattle.params.specs.declared.answers.Outcome.{Outcome}
+use Rattle.params.specs.declared.answers.Answer.the-variants.{
+  Complete,
+  ListFull,
+  SideTooLong,
+  ImageLength,
+  TooManyPixels,
+  RayRadius,
+  BlurRadius,
+  SuppressionRadius,
+  Threshold,
+  BufferTooShort,
+  FileTooLong,
+  FileTooShort,
+  Version,
+  StatedLength,
+  Mode,
+}
 
 abbrev pub numberOf : Answer → ℕ
 numberOf Complete = 0

@@ -13,13 +13,13 @@ use Rattle.grid.specs.Fold.{fold}
 use Rattle.grid.specs.Each.{each, keep}
 use Rattle.grid.specs.Rect.{from, range, line, rect}
 use Rattle.grid.specs.Ways.{pixel, along, down, fall, rise, ray}
-use Rattle.params.specs.declared.PeakFitMode.the-variants.{Parabolic}
+use Rattle.params.specs.declared.settings.PeakFitMode.the-variants.{Parabolic}
 use Rattle.response.specs.Upsample.{upAt}
 use Rattle.response.specs.Response.{raySpread, square, responseAt}
 use Rattle.response.specs.Blur.{valueAt, windowSum, rowMean, columnMean, blurAt}
 use Rattle.response.specs.Inner.{narrow-zero}
-use Rattle.detect.specs.Saddle.{disk}
-use Rattle.detect.specs.PeakFit.{fitOf}
+use Rattle.saddle.specs.Saddle.{disk}
+use Rattle.peak_fit.specs.PeakFit.{fitOf}
 
 -- a whole number as an f32, by its pattern; 2 and 3
 abbrev whole : ℕ → ℕ

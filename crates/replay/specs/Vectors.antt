@@ -2,7 +2,7 @@
 use mathlib.Core.Path.{_≡_}
 use mathlib.Core.Bool.{cond, _&&_}
 use mathlib.Core.List.{List, [], _∷_}
-use Prim.Native.Nat.{ℕ, suc, _+_, _-_, _*_}
+use Prim.Native.Nat.{ℕ, suc, _+_, _-_, _*_, min}
 use denote.Ref.{RefT, now, ptr}
 use lib.Dec.{leb, ltb, eqb}
 use lib.Ieee.{Float, nan, binary32, ofBits, toBits}
@@ -36,6 +36,10 @@ partStart s from to = cond (leb to (length s) && leb from to) from (length s)
 pub record Part (s : RefT (List ℕ)) (from to : ℕ) (r : RefT (List ℕ)) : Type 0 where
   pub values : now r ≡ partOf (now s) from to
   pub itself : ptr r ≡ (ptr s .0, partStart (now s) from to + ptr s .1)
+
+-- the place behind a part that stands after its length, a number of four bytes
+unfoldable pub behindOf : List ℕ → ℕ → ℕ
+behindOf s at = min (min (at + 4) (length s) + wordAt s at) (length s)
 
 -- the place after the first line feed, or the end
 unfoldable pub afterLine : List ℕ → ℕ

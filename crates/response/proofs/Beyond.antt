@@ -4,7 +4,7 @@ use mathlib.Core.List.{List}
 use Prim.Native.Nat.{ℕ, zero, suc, _*_}
 use lib.ListN.{drop}
 use lib.Ieee.{Float}
-use Rattle.grid.specs.Fill.{drop-filled}
+use Rattle.grid.proofs.Fill.{drop-filled}
 use Rattle.response.specs.Blur.{scratched}
 use Rattle.response.specs.Map.{rawAt, Buffers, mappedBy}
 

@@ -6,9 +6,12 @@ use native.Mathlib.Nat.{le-refl}
 use native.Mathlib.Omega.{arith}
 use lib.ListN.{length}
 use lib.Ieee.{Float, nan}
-use Rattle.grid.specs.Fill.{filled, filled-filled}
-use Rattle.grid.specs.Plane.{plane, plane-ext, getD-plane, pixel-in}
-use Rattle.grid.specs.Ways.{Way, along, down, fall, rise, pixel, runSum, run-ext}
+use Rattle.grid.specs.Fill.{filled}
+use Rattle.grid.proofs.Fill.{filled-filled}
+use Rattle.grid.specs.Plane.{plane}
+use Rattle.grid.proofs.Plane.{plane-ext, getD-plane, pixel-in}
+use Rattle.grid.specs.Ways.{Way, along, down, fall, rise, pixel, runSum}
+use Rattle.grid.proofs.Ways.{run-ext}
 use Rattle.response.specs.Blur.{valueAt, blurAt, rowMean, scratched}
 use Rattle.response.specs.BlurLaws.{blurAt-ext, rowMean-ext}
 use Rattle.response.specs.Upsample.{workAt}

@@ -6,8 +6,9 @@ use mathlib.Core.List.{List}
 use lib.ListN.{length, getD, set, length-set}
 use lib.Ieee.{Float}
 use Rattle.grid.specs.Fill.{filled}
-use Rattle.grid.specs.Loops.{Line, line-none, line-more, line-on, line-join, line-all}
-use Rattle.grid.specs.Ways.{Way, along, down, fall, rise, ray, ray-most, Deep, ray-deep}
+use Rattle.grid.proofs.Loops.{Line, line-none, line-more, line-on, line-join, line-all}
+use Rattle.grid.specs.Ways.{Way, along, down, fall, rise, ray, Deep}
+use Rattle.grid.proofs.Ways.{ray-most, ray-deep}
 use Rattle.response.specs.Response.{responseAt}
 use Rattle.response.specs.Tables.{Tables}
 use Rattle.response.specs.Starts.{Starts}

@@ -5,12 +5,16 @@ use native.Mathlib.Nat.{add-comm}
 use native.Mathlib.Omega.{arith}
 use mathlib.Core.List.{List}
 use lib.ListN.{length, getD}
-use Rattle.grid.specs.Fill.{filled, getD-filled}
-use Rattle.grid.specs.Plane.{plane, row-above, column-in, row-number-in}
-use Rattle.grid.specs.Loops.{Rows, Row, rows-none, row-none, rows-more, row-read}
-use Rattle.grid.specs.Span.{span, row-span}
+use Rattle.grid.specs.Fill.{filled}
+use Rattle.grid.proofs.Fill.{getD-filled}
+use Rattle.grid.specs.Plane.{plane}
+use Rattle.grid.proofs.Plane.{row-above, column-in, row-number-in}
+use Rattle.grid.proofs.Loops.{Rows, Row, rows-none, row-none, rows-more, row-read}
+use Rattle.grid.specs.Span.{span}
+use Rattle.grid.proofs.Span.{row-span}
 use Rattle.response.specs.Columns.{Strip, strip-none, strip-more}
-use Rattle.grid.specs.Ways.{Way, along, down, fall, rise, pixel, upTo, runSum, prevx, prevy, Reach, none-past, run-on, run-first, run-at, run-most}
+use Rattle.grid.specs.Ways.{Way, along, down, fall, rise, pixel, upTo, runSum, Reach}
+use Rattle.grid.proofs.Ways.{prevx, prevy, none-past, run-on, run-first, run-at, run-most}
 
 -- how many entries before a pixel's entry that of the pixel before it on the line stands
 abbrev pub behind : Way → ℕ → ℕ
@@ -58,8 +62,8 @@ pub sums-most : (d : Way) (f : ℕ → ℕ → ℕ) (top side w h : ℕ) (xs : L
     → (k : ℕ) → k < y * w + x → getD ys k 0 ≤ top * side
 unfolding plane
 sums-most d f top side w h xs {ys} {y} {x} r m u v room k b =
-    let l : k < w * h = omega (arith, r .room, r .most) in
-    let e : getD ys k 0 ≡ plane w (runSum d f w) k = rw (r .fill) (getD-filled (y * w + x) _ xs k 0 b (omega arith)) in
+    let l : k < w * h = omega (arith, r .room, r .steps .most) in
+    let e : getD ys k 0 ≡ plane w (runSum d f w) k = rw (r .steps .fill) (getD-filled (y * w + x) _ xs k 0 b (omega arith)) in
     rw e (run-most d f top side w _ _ m (omega (arith, column-in w h l)) (omega (arith, row-number-in w h l)))
 
 -- ---- a sum that is carried along a line: acc is what the line has before x and y

@@ -7,10 +7,12 @@ use mathlib.Core.List.{List, _++_}
 use mathlib.Core.Bool.{true, false}
 use lib.Dec.{eqb}
 use lib.ListN.{length, set, take, drop, getD}
-use Rattle.grid.specs.Loops.{Line, line-more, Rows}
-use Rattle.grid.specs.Fill.{filled, filled-ext}
-use Rattle.grid.specs.Plane.{plane, next-row, row-in}
-use Rattle.grid.specs.Part.{rows-part}
+use Rattle.grid.proofs.Loops.{Line, line-more, Rows}
+use Rattle.grid.specs.Fill.{filled}
+use Rattle.grid.proofs.Fill.{filled-ext}
+use Rattle.grid.specs.Plane.{plane}
+use Rattle.grid.proofs.Plane.{next-row, row-in}
+use Rattle.grid.proofs.Part.{rows-part}
 use Rattle.grid.specs.Ways.{pixel}
 use Rattle.response.specs.Upsample.{after, upAt, workAt}
 use Rattle.response.specs.Quarter.{quarter, between, near, row-between}

@@ -9,10 +9,11 @@ use mathlib.Core.List.{List}
 use lib.ListN.{length, getD}
 use lib.Ieee.{Float, nan, binary32, add}
 use Rattle.float.specs.Values.{f0}
-use Rattle.grid.specs.Fold.{fold-ext}
+use Rattle.grid.proofs.Fold.{fold-ext}
 use Rattle.grid.specs.Fill.{filled}
-use Rattle.grid.specs.Plane.{plane, plane-ext, getD-plane, pixel-in}
-use Rattle.grid.specs.Touch.{filled-same}
+use Rattle.grid.specs.Plane.{plane}
+use Rattle.grid.proofs.Plane.{plane-ext, getD-plane, pixel-in}
+use Rattle.grid.proofs.Touch.{filled-same}
 use Rattle.response.specs.Blur.{valueAt, counted, windowSum, rowMean, columnMean, blurAt, scratched}
 
 -- a place of a window is one of the n

@@ -16,9 +16,9 @@ use lib.Ieee.Fits.{and-l, and-r}
 use lib.Ieee.Positive.{num, den, den-pos, positive, own-value}
 use lib.Ieee.Scale.{finite}
 use Rattle.float.specs.Values.{f0, f1}
-use Rattle.float.specs.Computed.{every, every-at}
-use Rattle.float.specs.Sized.{Held, held}
-use Rattle.float.specs.Ranged.{Ranged, Exact, exact, ranged-sized, ranged-wider, ranged-least, ranged-most, ranged-finite, ranged-above, ranged-whole, add-left, add-right, mul-ranged, div-ranged, add-zeros, mul-zero-by, div-zero-by, zero-sized}
+use Rattle.float.proofs.Computed.{every, every-at}
+use Rattle.float.proofs.Sized.{Held, held}
+use Rattle.float.proofs.Ranged.{Ranged, Exact, exact, ranged-sized, ranged-wider, ranged-least, ranged-most, ranged-finite, ranged-above, ranged-whole, add-left, add-right, mul-ranged, div-ranged, add-zeros, mul-zero-by, div-zero-by, zero-sized}
 use Rattle.grid.specs.Fold.{fold, fsum}
 use Rattle.response.specs.Blur.{counted, windowSum, rowMean, columnMean, blurAt}
 use Rattle.response.specs.BlurLaws.{place-in}

@@ -10,9 +10,12 @@ use lib.ListN.{length, getD}
 use lib.IntN.{pos}
 use lib.Ieee.{Float, nan, binary32, add, mul, div, ofInt}
 use Rattle.float.specs.Values.{f0, f1}
-use Rattle.grid.specs.Fold.{fsum, fold-none, fold-on}
-use Rattle.grid.specs.Fill.{filled, filled-ext, length-fill}
-use Rattle.grid.specs.Touch.{touched, length-touched, touched-on, touched-join, Stage, stage-none, stage-more, stage-all}
+use Rattle.grid.specs.Fold.{fsum}
+use Rattle.grid.proofs.Fold.{fold-none, fold-on}
+use Rattle.grid.specs.Fill.{filled}
+use Rattle.grid.proofs.Fill.{filled-ext, length-fill}
+use Rattle.grid.specs.Touch.{touched}
+use Rattle.grid.proofs.Touch.{length-touched, touched-on, touched-join, Stage, stage-none, stage-more, stage-all}
 use Rattle.response.specs.Blur.{valueAt, counted, countOf, windowSum, rowMean, columnMean}
 
 -- of the window about x, the places that are k steps or less from its uncut start

@@ -8,9 +8,12 @@ use native.Mathlib.Decide.{decLt}
 use native.Mathlib.Omega.{arith}
 use mathlib.Core.List.{List}
 use lib.ListN.{length, getD}
-use Rattle.grid.specs.Fill.{filled, filled-intro}
-use Rattle.grid.specs.Plane.{plane, row-in, pixel-in, column-of, column-in, row-number-in}
-use Rattle.grid.specs.Span.{span, length-span, getD-before, getD-inside, getD-behind}
+use Rattle.grid.specs.Fill.{filled}
+use Rattle.grid.proofs.Fill.{filled-intro}
+use Rattle.grid.specs.Plane.{plane}
+use Rattle.grid.proofs.Plane.{row-in, pixel-in, column-of, column-in, row-number-in}
+use Rattle.grid.specs.Span.{span}
+use Rattle.grid.proofs.Span.{length-span, getD-before, getD-inside, getD-behind}
 
 -- the columns before x are done, and nothing past the map has changed
 pub record Columns (w h : ℕ) (g : ℕ → ℕ → ℕ) (old out : List ℕ) (x : ℕ) : Type 0 where

@@ -12,8 +12,9 @@ use lib.Ieee.{Float, binary32, ofInt, ofBits, mul, round, units, odd, size, span
 use lib.Ieee.Exact.{HasValue}
 use lib.Ieee.Back.{round-whole}
 use Rattle.float.specs.Values.{f0}
-use Rattle.float.specs.Whole.{mul-whole}
-use Rattle.grid.specs.Ways.{Way, along, down, fall, rise, ray, ray-most}
+use Rattle.float.proofs.Whole.{mul-whole}
+use Rattle.grid.specs.Ways.{Way, along, down, fall, rise, ray}
+use Rattle.grid.proofs.Ways.{ray-most}
 use Rattle.response.specs.Response.{spread, raySpread, square, within, responseAt}
 
 -- the spread of four rays

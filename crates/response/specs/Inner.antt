@@ -8,7 +8,8 @@ use lib.Dec.{T, ltb, leb, ltb→lt, leb→le}
 use lib.Ieee.Fits.{and-l, and-r}
 use borrow.Author.Tests.{le-leb, lt-ltb}
 use Rattle.float.specs.Values.{f0}
-use Rattle.grid.specs.Ways.{Way, along, down, fall, rise, ray, ray-raised, ray-ext, Inside}
+use Rattle.grid.specs.Ways.{Way, along, down, fall, rise, ray, Inside}
+use Rattle.grid.proofs.Ways.{ray-raised, ray-ext}
 use Rattle.response.specs.Response.{spread, square, raySpread, within, responseAt}
 
 module _ (w h r x y : ℕ) where

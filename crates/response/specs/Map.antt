@@ -9,9 +9,9 @@ use lib.Ieee.{Float}
 use Rattle.grid.specs.Fill.{filled}
 use Rattle.grid.specs.Plane.{plane}
 use Rattle.grid.specs.Ways.{pixel, along, down, fall, rise, runSum}
-use Rattle.params.specs.declared.RadonDetectorParams.{RadonDetectorParams}
-use Rattle.params.specs.declared.Answer.{Answer}
-use Rattle.params.specs.declared.Answer.the-variants.{Complete}
+use Rattle.params.specs.declared.settings.RadonDetectorParams.{RadonDetectorParams}
+use Rattle.params.specs.declared.answers.Answer.{Answer}
+use Rattle.params.specs.declared.answers.Answer.the-variants.{Complete}
 use Rattle.params.specs.Settings.{factorOf, rayOf}
 use Rattle.params.specs.Answers.{numberOf}
 use Rattle.params.specs.Refusals.{mapRefusalOf}
@@ -40,6 +40,18 @@ pub record Buffers : Type 0 where
   pub neg : List ℕ
   pub response : List Float
   pub scratch : List Float
+
+-- in the order in which they are lent
+abbrev pub mapLent : List ℕ → List ℕ → List ℕ → List ℕ → List ℕ → List Float → List Float → Buffers
+mapLent working row col pos neg response scratch = record {
+  working = working;
+  row = row;
+  col = col;
+  pos = pos;
+  neg = neg;
+  response = response;
+  scratch = scratch;
+}
 
 -- the length of the shortest
 abbrev pub roomOf : Buffers → ℕ
@@ -98,5 +110,5 @@ mappedOf img w h p b =
     (record { answer = answered img w h p b; w = 0; h = 0 })
 
 -- the buffers at the end: "no buffer changes" with a refusal
-unfoldable pub buffersOf : List ℕ → ℕ → ℕ → RadonDetectorParams → Buffers → Buffers
-buffersOf img w h p b = chosen (accepts (answered img w h p b)) (mapped (pixel img w) w h p b) b
+unfoldable pub mapBuffersOf : List ℕ → ℕ → ℕ → RadonDetectorParams → Buffers → Buffers
+mapBuffersOf img w h p b = chosen (accepts (answered img w h p b)) (mapped (pixel img w) w h p b) b

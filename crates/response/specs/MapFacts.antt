@@ -12,9 +12,10 @@ use lib.ListN.{length, take}
 use lib.Ieee.{Float, fin, le}
 use lib.Ieee.Scale.{finite}
 use Rattle.float.specs.Values.{f0}
-use Rattle.grid.specs.Fill.{filled, written-same}
+use Rattle.grid.specs.Fill.{filled}
+use Rattle.grid.proofs.Fill.{written-same}
 use Rattle.grid.specs.Plane.{plane}
-use Rattle.params.specs.declared.RadonDetectorParams.{RadonDetectorParams}
+use Rattle.params.specs.declared.settings.RadonDetectorParams.{RadonDetectorParams}
 use Rattle.response.specs.Upsample.{workAt}
 use Rattle.response.specs.Quarter.{work-most, work-raised, work-ext}
 use Rattle.response.specs.Inner.{response-raised, response-ext}

@@ -5,11 +5,11 @@ use Prim.Native.Nat.{ℕ, _*_, _≤_, _<_, min}
 use native.Mathlib.Nat.{le-trans, le-of-eq, min-le-left, min-le-right, mul-le-mul}
 use native.Mathlib.Omega.{arith}
 use lib.ListN.{length}
-use Rattle.params.specs.declared.RadonDetectorParams.{RadonDetectorParams}
+use Rattle.params.specs.declared.settings.RadonDetectorParams.{RadonDetectorParams}
 use Rattle.params.specs.Settings.{factorOf, rayOf}
 use Rattle.params.specs.Answers.{numberOf}
 use Rattle.params.specs.Refusals.{mapRefusalOf}
-use Rattle.params.specs.Accepted.{map-accepted}
+use Rattle.params.proofs.Accepted.{map-accepted}
 use Rattle.response.specs.Map.{Buffers, roomOf, sideOf}
 
 pub record Runs (factor ray blur w h image : ℕ) (b : Buffers) : Type 0 where

@@ -2,7 +2,7 @@
 use mathlib.Core.Path.{_≡_, refl}
 use Prim.Native.Nat.{ℕ, _+_, _-_, _*_, _≤_, _<_}
 use native.Mathlib.Omega.{arith}
-use Rattle.grid.specs.Plane.{row-in}
+use Rattle.grid.proofs.Plane.{row-in}
 
 pub record Starts (w h r y here hi lo : ℕ) : Type 0 where
   pub here-is : here ≡ y * w

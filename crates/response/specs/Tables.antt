@@ -3,9 +3,11 @@ use mathlib.Core.Path.{_≡_}
 use mathlib.Core.List.{List}
 use Prim.Native.Nat.{ℕ, _*_, _≤_}
 use lib.ListN.{length}
-use Rattle.grid.specs.Fill.{filled, length-filled}
+use Rattle.grid.specs.Fill.{filled}
+use Rattle.grid.proofs.Fill.{length-filled}
 use Rattle.grid.specs.Plane.{plane}
-use Rattle.grid.specs.Ways.{along, down, fall, rise, runSum, Holds, holds}
+use Rattle.grid.specs.Ways.{along, down, fall, rise, runSum, Holds}
+use Rattle.grid.proofs.Ways.{holds}
 
 -- the tables of the image f
 pub record Tables (f : ℕ → ℕ → ℕ) (w h : ℕ) (row col pos neg : List ℕ) : Type 0 where

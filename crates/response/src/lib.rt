@@ -8,7 +8,7 @@ ghost use mathlib.Core.Path.{_≡_};
 ghost use Prim.Native.Nat.{_*_, _≤_, min};
 ghost use lib.ListN.{length};
 ghost use Rattle.grid.specs.Ways.{pixel};
-ghost use Rattle.response.specs.Map.{Buffers, mappedBy, mappedOf, buffersOf};
+ghost use Rattle.response.specs.Map.{Buffers, mapLent, mappedBy, mappedOf, mapBuffersOf};
 ghost use Rattle.response.specs.Runs.{Runs};
 use params::Answer;
 use params::RadonDetectorParams;
@@ -92,40 +92,21 @@ pub fn radon_response_u8(
     response: &mut [f32],
     scratch: &mut [f32],
 ) -> Mapped
-    ensures answer { λ r. ⌜ r ≡ mappedOf (now (img .entry)) w h p (record {
-      working = now (working .entry);
-      row = now (row .entry);
-      col = now (col .entry);
-      pos = now (pos .entry);
-      neg = now (neg .entry);
-      response = now (response .entry);
-      scratch = now (scratch .entry);
-    }) ⌝ }
-    ensures buffers { λ _. ⌜ _≡_ {A = Buffers} (record {
-      working = now (working .exit);
-      row = now (row .exit);
-      col = now (col .exit);
-      pos = now (pos .exit);
-      neg = now (neg .exit);
-      response = now (response .exit);
-      scratch = now (scratch .exit);
-    })
-        (buffersOf (now (img .entry)) w h p (record {
-          working = now (working .entry);
-          row = now (row .entry);
-          col = now (col .entry);
-          pos = now (pos .entry);
-          neg = now (neg .entry);
-          response = now (response .entry);
-          scratch = now (scratch .entry);
-        })) ⌝ }
+    ensures answer { λ r. ⌜ r ≡ mappedOf (now (img .entry)) w h p
+        (mapLent (now (working .entry)) (now (row .entry)) (now (col .entry)) (now (pos .entry)) (now (neg .entry))
+        (now (response .entry)) (now (scratch .entry))) ⌝ }
+    ensures buffers { λ _. ⌜ mapLent (now (working .exit)) (now (row .exit)) (now (col .exit)) (now (pos .exit)) (now (neg .exit))
+        (now (response .exit)) (now (scratch .exit))
+        ≡ mapBuffersOf (now (img .entry)) w h p
+        (mapLent (now (working .entry)) (now (row .entry)) (now (col .entry)) (now (pos .entry)) (now (neg .entry))
+        (now (response .entry)) (now (scratch .entry))) ⌝ }
 {
     let tables = smaller(smaller(row.len(), col.len()), smaller(pos.len(), neg.len()));
     let room = smaller(
         working.len(),
         smaller(tables, smaller(response.len(), scratch.len())),
     );
-    let answer = params::judge_for_map(w, h, img.len(), p, room);
+    let answer = params::judge_map_call(w, h, img.len(), p, room);
     if answer.number() != 0 {
         return Mapped { answer, w: 0, h: 0 };
     }

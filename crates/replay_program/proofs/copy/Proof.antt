@@ -25,7 +25,8 @@ copied-more {file} {input} {k} {n} {i} c h = record {
   room = c .room;
   long = rw length-set (c .long);
   there = c .there;
-  same = rw (add-one, take-suc-set input i (getD file i 0) (omega (arith, c .room, c .long)), take-suc file i 0 (omega (arith, c .there)), c .same);
+  same =
+      rw (add-one, take-suc-set input i (getD file i 0) (omega (arith, c .room, c .long)), take-suc file i 0 (omega (arith, c .there)), c .same);
 }
 
 take-min : (k : ℕ) (l : List ℕ) → take (min (length l) k) l ≡ take k l
@@ -44,8 +45,8 @@ Inv-loop file input₀ n i₀ input i = Copied file (length input₀) n input i
 abbrev μ-loop : tie.MeasureT-loop
 μ-loop file input₀ n i₀ input i = n - i
 
-least-requires : tie.Need-least-requires Inv-loop μ-loop
-least-requires c κs = search needs
+lesser-requires : tie.Need-lesser-requires Inv-loop μ-loop
+lesser-requires c κs = search needs
 
 loop-holds : tie.Need-loop-holds Inv-loop μ-loop
 loop-holds c = record { most = omega arith; room = omega arith; long = refl; there = omega arith; same = refl }
@@ -69,7 +70,7 @@ same-length : tie.Need-same-length Inv-loop μ-loop
 same-length c = c .before .loop .inv .long
 
 returns : tie.Need-returns Inv-loop μ-loop
-returns c = copied-all (c .before .loop .inv) (c .loop-test .left) (c .before .before .least .ensures)
+returns c = copied-all (c .before .loop .inv) (c .loop-test .left) (c .before .before .lesser .ensures)
 
 pub copy-spec : {M : Type 1} → statement M
 copy-spec =
@@ -77,7 +78,7 @@ copy-spec =
     (tie.spec
     Inv-loop
     μ-loop
-    least-requires
+    lesser-requires
     loop-holds
     shared-slice-read-input
     slice-write-input

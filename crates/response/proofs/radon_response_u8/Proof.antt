@@ -5,36 +5,30 @@ use mir.Facts.{fits-le, fits-lit}
 use denote.Ref.{now}
 use lib.ListN.{length}
 use borrow.Author.Needs.{needs, fits-under}
-use Rattle.response.specs.Map.{Buffers, roomOf}
+use Rattle.response.specs.Map.{Buffers, mapLent, roomOf}
 use Rattle.response.specs.Runs.{Runs, runs-of, side-most}
 use Rattle.response.proofs.Cases.{room-by, number-zero, when-refused, when-accepted}
 use Rattle.response.proofs.radon_response_u8.Statement.{statement}
 use Rattle.response.proofs.radon_response_u8.Tie as tie
 
 abbrev lent : tie.Start → Buffers
-lent s = record {
-  working = now (s .args .working);
-  row = now (s .args .row);
-  col = now (s .args .col);
-  pos = now (s .args .pos);
-  neg = now (s .args .neg);
-  response = now (s .args .response);
-  scratch = now (s .args .scratch);
-}
+lent s =
+    mapLent (now (s .args .working)) (now (s .args .row)) (now (s .args .col)) (now (s .args .pos)) (now (s .args .neg))
+    (now (s .args .response)) (now (s .args .scratch))
 
 -- ---- the way back to the answer, and from there to the start
 
-abbrev start : tie.After-judge-for-map → tie.Start
+abbrev start : tie.After-judge-map-call → tie.Start
 start c = c .before .before .before .before .before .before .before .before .before .before .before .before .before .before .before
 
-room-is : (c : tie.After-judge-for-map) → c .before .smaller6 .result ≡ roomOf (lent (start c))
+room-is : (c : tie.After-judge-map-call) → c .before .smaller6 .result ≡ roomOf (lent (start c))
 room-is c = room-by (lent (start c)) (c .before .before .before .before .before .before .smaller .ensures) (c .before .before .before .before .before .smaller2 .ensures) (c .before .before .before .before .smaller3 .ensures) (c .before .before .before .smaller4 .ensures) (c .before .before .smaller5 .ensures) (c .before .smaller6 .ensures)
 
 returns : tie.Need-returns
 returns c =
     let j = c .before .before in
     let s = start j in
-    when-refused (now (s .args .img)) (s .args .w) (s .args .h) (s .args .p) (lent s) (room-is j) (j .judge-for-map .ensures) (c .before .number .ensures) (c .if1 .taken)
+    when-refused (now (s .args .img)) (s .args .w) (s .args .h) (s .args .p) (lent s) (room-is j) (j .judge-map-call .ensures) (c .before .number .ensures) (c .if1 .taken)
 
 -- what the passes ask of the call, from where the answer is known to be 0
 runs : (c : tie.After-ray-radius-clamped) → Runs (c .before .image-upsample-clamped .result) (c .ray-radius-clamped .result) (start (c .before .before .before .before) .args .p .«response_blur_radius») (start (c .before .before .before .before) .args .w) (start (c .before .before .before .before) .args .h) (length (now (start (c .before .before .before .before) .args .img))) (lent (start (c .before .before .before .before)))
@@ -42,7 +36,7 @@ runs c =
     let j = c .before .before .before .before in
     let s = start j in
     runs-of (s .args .w) (s .args .h) (s .args .p) (length (now (s .args .img))) (lent s) (c .before .image-upsample-clamped .ensures) (c .ray-radius-clamped .ensures) refl
-    (number-zero (now (s .args .img)) (s .args .w) (s .args .h) (s .args .p) (lent s) (room-is j) (j .judge-for-map .ensures) (c .before .before .before .number .ensures) (c .before .before .if1 .left))
+    (number-zero (now (s .args .img)) (s .args .w) (s .args .h) (s .args .p) (lent s) (room-is j) (j .judge-map-call .ensures) (c .before .before .before .number .ensures) (c .before .before .if1 .left))
 
 -- from the end back to the passes
 abbrev ran : tie.After-slice-known14 → tie.After-run
@@ -53,7 +47,7 @@ returns-2 c =
     let r = ran c .before .before .before .before .before .before .before .before .before in
     let j = r .before .before .before .before in
     let s = start j in
-    when-accepted (now (s .args .img)) (s .args .w) (s .args .h) (s .args .p) (lent s) (room-is j) (j .judge-for-map .ensures) (r .before .before .before .number .ensures) (r .before .before .if1 .left)
+    when-accepted (now (s .args .img)) (s .args .w) (s .args .h) (s .args .p) (lent s) (room-is j) (j .judge-map-call .ensures) (r .before .before .before .number .ensures) (r .before .before .if1 .left)
     (r .before .image-upsample-clamped .ensures) (r .ray-radius-clamped .ensures) refl (ran c .run .ensures)
 
 pub radon-response-u8-spec : {M : Type 1} → statement M

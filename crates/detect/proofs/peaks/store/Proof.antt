@@ -1,8 +1,7 @@
 -- `detect::peaks::store` meets its contract: three stores, one after the other. Assumes nothing.
 use Prim.Native.Nat.{_*_}
-use native.Mathlib.Omega.{arith}
 use lib.ListN.{length-set}
-use Rattle.grid.specs.Over.{sets-three}
+use Rattle.grid.proofs.Over.{sets-three}
 use borrow.Author.Needs.{needs}
 use Rattle.detect.proofs.peaks.store.Statement.{statement}
 use Rattle.detect.proofs.peaks.store.Tie as tie

@@ -27,5 +27,14 @@ quotient : div binary32 (ofBits binary32 0) (ofBits binary32 0) ≡ nan
 unfolding div ofBits
 quotient = refl
 
+float-from-bits-result : tie.Need-float-from-bits-result
+float-from-bits-result c = number _ (c .if1 .taken)
+
+returns : tie.Need-returns
+returns c = search needs
+
+returns-2 : tie.Need-returns-2
+returns-2 c = quotient ∙ no-number _ (c .if1 .left)
+
 pub float-spec : {M : Type 1} → statement M
-float-spec = tie.close (tie.spec (λ c. number _ (c .if1 .taken)) (λ c. search needs) (λ c. quotient ∙ no-number _ (c .if1 .left)))
+float-spec = tie.close (tie.spec float-from-bits-result returns returns-2)

@@ -5,7 +5,7 @@ use native.Mathlib.Omega.{arith}
 use lib.ListN.{getD}
 use lib.Ieee.{nan, binary32}
 use lib.Ieee as ieee
-use Rattle.grid.specs.Touch.{Span, span-none, span-more, span-all}
+use Rattle.grid.proofs.Touch.{Span, span-none, span-more, span-all}
 use Rattle.response.proofs.blur.add.Statement.{statement}
 use Rattle.response.proofs.blur.add.Tie as tie
 

@@ -4,7 +4,7 @@ use Prim.Native.Nat.{_-_}
 use native.Mathlib.Omega.{arith}
 use lib.ListN.{length}
 use lib.Ieee.{nan}
-use Rattle.grid.specs.Touch.{Span, span-none, span-more, span-all}
+use Rattle.grid.proofs.Touch.{Span, span-none, span-more, span-all}
 use Rattle.response.specs.BlurSteps.{addThree}
 use Rattle.response.proofs.blur.add_three.Statement.{statement}
 use Rattle.response.proofs.blur.add_three.Tie as tie

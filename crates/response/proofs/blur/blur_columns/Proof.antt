@@ -3,9 +3,9 @@ use mathlib.Core.Path.{refl}
 use Prim.Native.Nat.{_+_, _-_, _*_, _≤_}
 use native.Mathlib.Omega.{arith}
 use lib.ListN.{length-take, length-drop}
-use Rattle.grid.specs.Loops.{Rows, rows-none, rows-all}
-use Rattle.grid.specs.Part.{rows-part}
-use Rattle.grid.specs.Plane.{row-in}
+use Rattle.grid.proofs.Loops.{Rows, rows-none, rows-all}
+use Rattle.grid.proofs.Part.{rows-part}
+use Rattle.grid.proofs.Plane.{row-in}
 use Rattle.response.specs.Blur.{valueAt, columnMean}
 use Rattle.response.proofs.blur.blur_columns.Statement.{statement}
 use Rattle.response.proofs.blur.blur_columns.Tie as tie

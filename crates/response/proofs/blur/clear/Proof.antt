@@ -5,7 +5,7 @@ use native.Mathlib.Omega.{arith}
 use lib.ListN.{length}
 use lib.Ieee.{nan}
 use Rattle.float.specs.Values.{f0}
-use Rattle.grid.specs.Touch.{Span, span-none, span-more, span-all}
+use Rattle.grid.proofs.Touch.{Span, span-none, span-more, span-all}
 use Rattle.response.proofs.blur.clear.Statement.{statement}
 use Rattle.response.proofs.blur.clear.Tie as tie
 

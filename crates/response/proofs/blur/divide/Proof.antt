@@ -4,8 +4,8 @@ use Prim.Native.Nat.{_-_}
 use native.Mathlib.Omega.{arith}
 use lib.Ieee.{nan, binary32}
 use lib.Ieee as ieee
-use Rattle.float.specs.Whole.{casts}
-use Rattle.grid.specs.Touch.{Span, span-none, span-more, span-all}
+use Rattle.float.proofs.Whole.{casts}
+use Rattle.grid.proofs.Touch.{Span, span-none, span-more, span-all}
 use Rattle.response.proofs.blur.divide.Statement.{statement}
 use Rattle.response.proofs.blur.divide.Tie as tie
 

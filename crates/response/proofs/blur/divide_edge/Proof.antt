@@ -4,8 +4,8 @@ use native.Mathlib.Omega.{arith}
 use lib.ListN.{length}
 use lib.Ieee.{nan, binary32}
 use lib.Ieee as ieee
-use Rattle.float.specs.Whole.{casts}
-use Rattle.grid.specs.Touch.{Span, span-none, span-more, span-all}
+use Rattle.float.proofs.Whole.{casts}
+use Rattle.grid.proofs.Touch.{Span, span-none, span-more, span-all}
 use Rattle.response.specs.Blur.{countOf}
 use Rattle.response.specs.BlurSteps.{by-count}
 use Rattle.response.proofs.blur.divide_edge.Statement.{statement}

@@ -2,9 +2,9 @@
 use Prim.Native.Nat.{_+_, _-_, _*_, _≤_}
 use native.Mathlib.Omega.{arith}
 use lib.Ieee.{nan}
-use Rattle.float.specs.Whole.{casts}
-use Rattle.grid.specs.Plane.{row-in}
-use Rattle.grid.specs.Touch.{Stage, stage-on, stage-join}
+use Rattle.float.proofs.Whole.{casts}
+use Rattle.grid.proofs.Plane.{row-in}
+use Rattle.grid.proofs.Touch.{Stage, stage-on, stage-join}
 use Rattle.response.specs.BlurSteps.{rowsFrom, column-none, column-three, column-more, column-all}
 use Rattle.response.proofs.blur.mean_column.Statement.{statement}
 use Rattle.response.proofs.blur.mean_column.Tie as tie

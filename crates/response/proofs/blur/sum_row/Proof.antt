@@ -4,7 +4,7 @@ use Prim.Native.Nat.{_+_, _-_, _≤_}
 use native.Mathlib.Omega.{arith}
 use lib.ListN.{getD}
 use lib.Ieee.{nan}
-use Rattle.grid.specs.Touch.{Stage}
+use Rattle.grid.proofs.Touch.{Stage}
 use Rattle.response.specs.BlurSteps.{grown, row-none, row-more, row-all}
 use Rattle.response.proofs.blur.sum_row.Statement.{statement}
 use Rattle.response.proofs.blur.sum_row.Tie as tie

@@ -3,7 +3,7 @@ use mathlib.Core.Path.{_≡_, refl, sym, ap, _∙_}
 use Prim.Native.Nat.{ℕ, _+_, _-_, _*_, _≤_, _<_}
 use native.Mathlib.Omega.{arith}
 use lib.ListN.{length, getD}
-use Rattle.grid.specs.Span.{Spanning, spanning-none, spanning-more, spanning-all}
+use Rattle.grid.proofs.Span.{Spanning, spanning-none, spanning-more, spanning-all}
 use Rattle.response.proofs.cumsums.begin.Statement.{statement}
 use Rattle.response.proofs.cumsums.begin.Tie as tie
 

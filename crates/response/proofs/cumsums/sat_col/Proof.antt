@@ -4,7 +4,7 @@ use Prim.Native.Nat.{ℕ, _+_, _-_, _*_, _≤_, _<_}
 use native.Mathlib.Omega.{arith}
 use lib.ListN.{length, getD}
 use native.Mathlib.Nat.{mul-zero}
-use Rattle.grid.specs.Fill.{filled-zero}
+use Rattle.grid.proofs.Fill.{filled-zero}
 use Rattle.grid.specs.Ways.{pixel, down, runSum}
 use Rattle.response.specs.Columns.{Columns, columns-none, columns-more, columns-all}
 use Rattle.response.proofs.cumsums.sat_col.Statement.{statement}

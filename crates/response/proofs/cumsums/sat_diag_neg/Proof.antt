@@ -4,9 +4,9 @@ use Prim.Native.Nat.{ℕ, _+_, _-_, _*_, _≤_, _<_}
 use native.Mathlib.Omega.{arith}
 use lib.ListN.{length, getD}
 use native.Mathlib.Nat.{zero-mul, mul-zero}
-use Rattle.grid.specs.Fill.{filled-zero}
-use Rattle.grid.specs.Loops.{Rows, Row, row-none, rows-more, rows-on, rows-join, rows-all}
-use Rattle.grid.specs.Plane.{row-in, row-above}
+use Rattle.grid.proofs.Fill.{filled-zero}
+use Rattle.grid.proofs.Loops.{Rows, Row, row-none, rows-more, rows-on, rows-join, rows-all}
+use Rattle.grid.proofs.Plane.{row-in, row-above}
 use Rattle.grid.specs.Ways.{pixel, rise, runSum}
 use Rattle.response.proofs.Running.{first-row, row-begun, row-carried, sums-most}
 use Rattle.response.proofs.cumsums.sat_diag_neg.Statement.{statement}

@@ -3,8 +3,8 @@ use mathlib.Core.Path.{_≡_, refl, sym, ap, _∙_}
 use Prim.Native.Nat.{ℕ, _+_, _-_, _*_, _≤_, _<_}
 use native.Mathlib.Omega.{arith}
 use lib.ListN.{length, getD}
-use Rattle.grid.specs.Loops.{Rows, Row, rows-none, row-none, row-more, rows-more, rows-all}
-use Rattle.grid.specs.Plane.{row-in}
+use Rattle.grid.proofs.Loops.{Rows, Row, rows-none, row-none, row-more, rows-more, rows-all}
+use Rattle.grid.proofs.Plane.{row-in}
 use Rattle.grid.specs.Ways.{pixel, along, runSum}
 use Rattle.response.proofs.Running.{Carried, carried-none, carried-more, carried-most}
 use Rattle.response.proofs.cumsums.sat_row.Statement.{statement}

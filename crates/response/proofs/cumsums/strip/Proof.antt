@@ -3,7 +3,7 @@ use mathlib.Core.Path.{_≡_, refl, sym, ap, _∙_}
 use Prim.Native.Nat.{ℕ, _+_, _-_, _*_, _≤_, _<_}
 use native.Mathlib.Omega.{arith}
 use lib.ListN.{length, getD}
-use Rattle.grid.specs.Plane.{row-in, row-above}
+use Rattle.grid.proofs.Plane.{row-in, row-above}
 use Rattle.grid.specs.Ways.{pixel, down, runSum}
 use Rattle.response.specs.Columns.{Strip, strip-on, strip-join}
 use Rattle.response.proofs.Running.{strip-begun, strip-carried, strip-most}

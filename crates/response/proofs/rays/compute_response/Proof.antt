@@ -4,9 +4,9 @@ use Prim.Native.Nat.{ℕ, _+_, _-_, _*_, _≤_, _<_}
 use native.Mathlib.Omega.{arith}
 use lib.ListN.{length, getD}
 use lib.ListN.{length-take, length-drop}
-use Rattle.grid.specs.Loops.{Rows, rows-none, rows-all}
-use Rattle.grid.specs.Part.{rows-part}
-use Rattle.grid.specs.Plane.{row-in}
+use Rattle.grid.proofs.Loops.{Rows, rows-none, rows-all}
+use Rattle.grid.proofs.Part.{rows-part}
+use Rattle.grid.proofs.Plane.{row-in}
 use Rattle.response.specs.Response.{responseAt}
 use Rattle.response.specs.Tables.{Tables}
 use Rattle.response.proofs.rays.compute_response.Statement.{statement}

@@ -4,7 +4,8 @@ use Prim.Native.Nat.{ℕ, _+_, _-_, _*_, _≤_, _<_}
 use native.Mathlib.Omega.{arith}
 use lib.ListN.{length, getD}
 use borrow.Author.Needs.{needs}
-use Rattle.grid.specs.Ways.{Way, along, down, fall, rise, ray, deep-inside}
+use Rattle.grid.specs.Ways.{Way, along, down, fall, rise, ray}
+use Rattle.grid.proofs.Ways.{deep-inside}
 use Rattle.response.specs.Inner.{response-in}
 use Rattle.response.proofs.Rows.{Rays, rays-of, ray-small}
 use Rattle.response.proofs.rays.deep_response.Statement.{statement}

@@ -4,8 +4,8 @@ use Prim.Native.Nat.{ℕ, _+_, _-_, _*_, _≤_, _<_}
 use native.Mathlib.Omega.{arith}
 use lib.ListN.{length, getD}
 use borrow.Author.Needs.{needs}
-use Rattle.grid.specs.Plane.{row-in}
-use Rattle.grid.specs.Ways.{none-past, holds-at}
+use Rattle.grid.proofs.Plane.{row-in}
+use Rattle.grid.proofs.Ways.{none-past, holds-at}
 use Rattle.response.proofs.rays.entry.Statement.{statement}
 use Rattle.response.proofs.rays.entry.Tie as tie
 

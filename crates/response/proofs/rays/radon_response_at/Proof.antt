@@ -4,7 +4,8 @@ use Prim.Native.Nat.{ℕ, _+_, _-_, _*_, _≤_, _<_}
 use native.Mathlib.Omega.{arith}
 use lib.ListN.{length, getD}
 use borrow.Author.Needs.{needs}
-use Rattle.grid.specs.Ways.{Way, along, down, fall, rise, ray, ray-by}
+use Rattle.grid.specs.Ways.{Way, along, down, fall, rise, ray}
+use Rattle.grid.proofs.Ways.{ray-by}
 use Rattle.response.specs.Inner.{response-in}
 use Rattle.response.specs.Tables.{Tables}
 use Rattle.response.proofs.Rows.{ray-small}

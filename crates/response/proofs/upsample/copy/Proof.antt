@@ -3,7 +3,7 @@ use mathlib.Core.Path.{_≡_, refl, sym, ap, _∙_}
 use Prim.Native.Nat.{ℕ, _+_, _-_, _*_, _≤_, _<_}
 use native.Mathlib.Omega.{arith}
 use lib.ListN.{length, getD}
-use Rattle.grid.specs.Loops.{Line, line-none, line-more, line-all}
+use Rattle.grid.proofs.Loops.{Line, line-none, line-more, line-all}
 use Rattle.response.proofs.upsample.copy.Statement.{statement}
 use Rattle.response.proofs.upsample.copy.Tie as tie
 

@@ -4,7 +4,7 @@ use Prim.Native.Nat.{ℕ, _+_, _-_, _*_, _≤_, _<_}
 use native.Mathlib.Omega.{arith}
 use lib.ListN.{length, getD}
 use lib.ListN.{length-set}
-use Rattle.grid.specs.Loops.{Line, line-none, line-all}
+use Rattle.grid.proofs.Loops.{Line, line-none, line-all}
 use Rattle.response.specs.Quarter.{between}
 use Rattle.response.proofs.Upsampling.{line-two}
 use Rattle.response.proofs.upsample.row_kernel.Statement.{statement}

@@ -4,9 +4,9 @@ use Prim.Native.Nat.{ℕ, _+_, _-_, _*_, _≤_, _<_}
 use native.Mathlib.Omega.{arith}
 use lib.ListN.{length, getD}
 use lib.ListN.{length-take, length-drop}
-use Rattle.grid.specs.Fill.{filled-zero}
-use Rattle.grid.specs.Plane.{row-in}
-use Rattle.grid.specs.Loops.{Rows, rows-none, rows-all}
+use Rattle.grid.proofs.Fill.{filled-zero}
+use Rattle.grid.proofs.Plane.{row-in}
+use Rattle.grid.proofs.Loops.{Rows, rows-none, rows-all}
 use Rattle.grid.specs.Ways.{pixel}
 use Rattle.response.specs.Upsample.{upAt}
 use native.Mathlib.Nat.{zero-mul}

@@ -1,0 +1,107 @@
+-- The image that the tables show is the image that they are of, and the eight entries about a pixel give its rays. Assumes nothing.
+use mathlib.Core.Path.{_≡_, refl, sym, ap, _∙_}
+use mathlib.Core.List.{List}
+use Prim.Native.Nat.{ℕ, zero, suc, _+_, _-_, _*_, _≤_, _<_, min}
+use native.Mathlib.Nat.{mul-le-mul-left}
+use native.Mathlib.Omega.{arith}
+use lib.ListN.{length, getD}
+use lib.Ieee.{Float}
+use Rattle.grid.specs.Fill.{filled}
+use Rattle.grid.proofs.Fill.{length-fill}
+use Rattle.grid.specs.Plane.{plane}
+use Rattle.grid.proofs.Plane.{plane-ext, row-in}
+use Rattle.grid.specs.Ways.{Way, along, down, fall, rise, runSum, ray, Holds, Inside, Deep}
+use Rattle.grid.proofs.Ways.{run-ext, ray-most, ray-ext, holds, ray-deep, deep-inside}
+use Rattle.rays.specs.Tables.{tableAt, tableOf}
+use Rattle.rays.specs.Response.{responseAt}
+use Rattle.rays.specs.Shown.{shown, Tables}
+use Rattle.rays.proofs.Summed.{table-run, table-filled}
+use Rattle.rays.proofs.Inner.{response-ext}
+
+module _ {f : ℕ → ℕ → ℕ} {w h : ℕ} {row : List ℕ} (s : Holds along f w h row) where
+  -- an entry of the row table
+  entry-is : (x y : ℕ) → x < w → y < h → getD row (y * w + x) 0 ≡ tableAt along f w x y
+  entry-is x y l m = s .at x y l m ∙ sym (table-run f w along x y l)
+
+  pub shown-is : (x y : ℕ) → x < w → y < h → shown row w x y ≡ f x y
+  unfolding shown tableAt
+  shown-is zero y l m = entry-is zero y l m
+  shown-is (suc x) y l m = omega (arith, entry-is (suc x) y l m, entry-is x y (omega arith) m)
+
+-- a table of one image is that of another with the same pixels
+holds-ext : {d : Way} {f g : ℕ → ℕ → ℕ} {w h : ℕ} {t : List ℕ} → Holds d f w h t → ((x y : ℕ) → x < w → y < h → f x y ≡ g x y) → Holds d g w h t
+holds-ext {d} {f} {g} {w} {h} s e = record { at = λ x y l m. s .at x y l m ∙ run-ext d f g w h x y l m e }
+
+-- ---- what `build_cumsums` leaves
+
+-- one table, in a buffer with room
+pub record Built (d : Way) (f : ℕ → ℕ → ℕ) (w h : ℕ) (old t : List ℕ) : Type 0 where
+  pub room : w * h ≤ length old
+  pub is : t ≡ tableOf d f w h old
+
+module _ {f : ℕ → ℕ → ℕ} {w h : ℕ} where
+  table-holds : {d : Way} {old t : List ℕ} → Built d f w h old t → Holds d f w h t
+  table-holds {d} {old} b = holds d f w h old (b .room) (b .is ∙ table-filled f w d h old)
+
+  table-long : {d : Way} {old t : List ℕ} → Built d f w h old t → w * h ≤ length t
+  table-long {d} {old} b = omega (arith, b .room, length-fill _ _ old (b .is))
+
+  module _ {row₀ row : List ℕ} (p : Built along f w h row₀ row) where
+    pub tables-of : {col₀ col falling₀ falling rising₀ rising : List ℕ} → Built down f w h col₀ col → Built fall f w h falling₀ falling → Built rise f w h rising₀ rising
+        → w ≤ 8192 → h ≤ 8192 → ((x y : ℕ) → f x y ≤ 4095) → Tables w h row col falling rising
+    tables-of q s t u v m =
+        let same : (x y : ℕ) → x < w → y < h → f x y ≡ shown row w x y = λ x y a b. sym (shown-is (table-holds p) x y a b) in
+        record {
+          wide = u;
+          high = v;
+          row-long = table-long p;
+          col-long = table-long q;
+          falling-long = table-long s;
+          rising-long = table-long t;
+          most = λ x y a b. omega (arith, same x y a b, m x y);
+          rows = holds-ext (table-holds p) same;
+          columns = holds-ext (table-holds q) same;
+          falls = holds-ext (table-holds s) same;
+          rises = holds-ext (table-holds t) same;
+        }
+
+    -- the response of the image that is shown
+    pub response-shown : (r : ℕ) (old : List Float) → filled (w * h) (plane w (responseAt (shown row w) w h r)) old ≡ filled (w * h) (plane w (responseAt f w h r)) old
+    response-shown r old = plane-ext w h _ _ old (λ x y a b. response-ext (shown row w) f w h r x y (shown-is (table-holds p)))
+
+-- ---- the rays
+
+module _ {w h : ℕ} {row col falling rising : List ℕ} (t : Tables w h row col falling rising) where
+  -- a ray of at most 15 pixels
+  pub ray-small : {r x y : ℕ} (d : Way) → r ≤ 7 → Inside w h r x y → ray d (shown row w) r x y ≤ 61425
+  ray-small {r} {x} {y} d b m =
+      let f : ℕ → ℕ → ℕ = λ x y. min (shown row w x y) 4095 in
+      omega (arith, ray-ext d (shown row w) f w h r x y m (λ x y a b. omega (arith, t .most x y a b)), ray-most d f 4095 r x y (λ x y. omega arith))
+
+  -- the rows that a table is read in, up to row k counted from 1
+  pub rows-room : (k : ℕ) → k ≤ h
+      → (w ≤ 8192) × (k ≤ 8192) × (w * k ≤ length row) × (w * k ≤ length col) × (w * k ≤ length falling) × (w * k ≤ length rising)
+  rows-room k l = omega (arith, t .wide, t .high, t .row-long, t .col-long, t .falling-long, t .rising-long, mul-le-mul-left w l)
+
+  -- where the rows y, y + r and y - r - 1 end
+  pub deep-room : {r x y : ℕ} → Deep w h r x y → (y * w + w ≤ w * h) × ((y + r) * w + w ≤ w * h) × ((y - r - 1) * w + w ≤ w * h)
+  deep-room m = (row-in w (omega arith), row-in w (m .below), row-in w (omega arith))
+
+-- the eight entries about a pixel that is deep in the image: the differences do not wrap, and are the rays
+pub record DeepRays (w r x y : ℕ) (row col falling rising : List ℕ) : Type 0 where
+  pub on-row : (getD row (y * w + x - r - 1) 0 ≤ getD row (y * w + x + r) 0)
+      × (getD row (y * w + x + r) 0 - getD row (y * w + x - r - 1) 0 ≡ ray along (shown row w) r x y)
+  pub on-col : (getD col ((y - r - 1) * w + x) 0 ≤ getD col ((y + r) * w + x) 0)
+      × (getD col ((y + r) * w + x) 0 - getD col ((y - r - 1) * w + x) 0 ≡ ray down (shown row w) r x y)
+  pub on-falling : (getD falling ((y - r - 1) * w + x - r - 1) 0 ≤ getD falling ((y + r) * w + x + r) 0)
+      × (getD falling ((y + r) * w + x + r) 0 - getD falling ((y - r - 1) * w + x - r - 1) 0 ≡ ray fall (shown row w) r x y)
+  pub on-rising : (getD rising ((y - r - 1) * w + x + r + 1) 0 ≤ getD rising ((y + r) * w + x - r) 0)
+      × (getD rising ((y + r) * w + x - r) 0 - getD rising ((y - r - 1) * w + x + r + 1) 0 ≡ ray rise (shown row w) r x y)
+
+pub deep-rays : {w h r x y : ℕ} {row col falling rising : List ℕ} → Tables w h row col falling rising → Deep w h r x y → DeepRays w r x y row col falling rising
+deep-rays t m = record {
+  on-row = ray-deep along (t .rows) m (omega arith) (omega arith);
+  on-col = ray-deep down (t .columns) m (omega arith) (omega arith);
+  on-falling = ray-deep fall (t .falls) m (omega arith) (omega arith);
+  on-rising = ray-deep rise (t .rises) m (omega arith) (omega arith);
+}

@@ -1,0 +1,49 @@
+-- `entry`: past the edge a line has no pixels, and inside the table has its sum. Assumes nothing.
+use mathlib.Core.Path.{refl}
+use Prim.Native.Nat.{_+_, _-_, _*_, _≤_}
+use native.Mathlib.Omega.{arith}
+use borrow.Author.Needs.{needs}
+use Rattle.grid.proofs.Plane.{row-in}
+use Rattle.grid.proofs.Ways.{none-past, holds-at}
+use Rattle.rays.proofs.rays.entry.Statement.{statement}
+use Rattle.rays.proofs.rays.entry.Tie as tie
+
+abbrev start : tie.Else3 → tie.Start
+start c = c .before .before .before
+
+-- the row ends within the table
+row-ends : (c : tie.Else3) → (start c .args .y - 1) * start c .args .w + start c .args .w ≤ start c .args .w * start c .args .y
+row-ends c = row-in (start c .args .w) (omega arith)
+
+returns : tie.Need-returns
+returns c = λ h l. record { is = λ d f s r. none-past d f _ _ _ r (omega arith) }
+
+returns-2 : tie.Need-returns-2
+returns-2 c = λ h l. record { is = λ d f s r. none-past d f _ _ _ r (omega arith) }
+
+returns-3 : tie.Need-returns-3
+returns-3 c = λ h l. record { is = λ d f s r. none-past d f _ _ _ r (omega arith) }
+
+sub-result : tie.Need-sub-result
+sub-result c = search needs
+
+mul-result : tie.Need-mul-result
+mul-result c = omega (arith, row-ends c)
+
+sub-result-2 : tie.Need-sub-result-2
+sub-result-2 c = search needs
+
+add-result : tie.Need-add-result
+add-result c = omega (arith, row-ends c)
+
+mul-result-2 : tie.Need-mul-result-2
+mul-result-2 c = omega (arith, row-ends c)
+
+shared-slice-read-result : tie.Need-shared-slice-read-result
+shared-slice-read-result c = omega (arith, row-ends (c .before))
+
+returns-4 : tie.Need-returns-4
+returns-4 c = λ h l. record { is = λ d f s r. holds-at s _ _ (omega arith) (omega arith) (omega arith) (omega arith) refl }
+
+pub entry-spec : {M : Type 1} → statement M
+entry-spec = tie.close (tie.spec returns returns-2 returns-3 sub-result mul-result sub-result-2 add-result mul-result-2 shared-slice-read-result returns-4)

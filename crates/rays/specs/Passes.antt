@@ -1,0 +1,22 @@
+-- What the passes that fill a table ask of the rows above, and what a strip of columns promises.
+use mathlib.Core.Path.{_≡_}
+use mathlib.Core.List.{List}
+use Prim.Native.Nat.{ℕ, _+_, _*_, _≤_, _<_}
+use lib.ListN.{length, getD}
+use Rattle.grid.specs.Ways.{Way, pixel}
+use Rattle.rays.specs.Tables.{tableOf}
+
+-- there is room for row y, and the rows above it are the table's
+pub record Above (d : Way) (img : List ℕ) (w y : ℕ) (out : List ℕ) : Type 0 where
+  pub wide : w ≤ 8192
+  pub high : y < 8192
+  pub image : y * w + w ≤ length img
+  pub room : y * w + w ≤ length out
+  pub done : out ≡ tableOf d (pixel img w) w y out
+
+-- of the columns a to e - 1 the rows above y are g, and nothing else has changed
+pub record Strip (w : ℕ) (g : ℕ → ℕ → ℕ) (old out : List ℕ) (a e y : ℕ) : Type 0 where
+  pub inside : e ≤ w
+  pub done : (x b : ℕ) → a ≤ x → x < e → b < y → getD out (b * w + x) 0 ≡ g x b
+  pub same : (k : ℕ) → ((x b : ℕ) → a ≤ x → x < e → b < y → k ≡ b * w + x → ⊥) → getD out k 0 ≡ getD old k 0
+  pub long : length out ≡ length old
