@@ -47,7 +47,7 @@ module _ (d : Way) (img : List ℕ) (w y : ℕ) (xs : List ℕ) where
   Filling ys x = Row w (y + 1) (tableAt d (pixel img w) w) xs ys y x
 
   pub row-start : Above d img w y xs → Filling xs 0
-  row-start a = row-none w (y + 1) _ xs (record { most = omega arith; fill = rw (mul-comm w y) at (a .done); long = refl }) (omega arith)
+  row-start a = row-none w (y + 1) _ xs (record { least = omega arith; most = omega arith; fill = rw (mul-comm w y) at (a .done); long = refl }) (omega arith)
 
   -- what comes back from `begin`
   pub row-begun : {ys zs : List ℕ} {lo hi a e : ℕ} → Filling ys lo → lo ≤ hi → hi ≤ w → a ≡ y * w + lo → e ≡ y * w + hi
@@ -65,14 +65,14 @@ module _ (d : Way) (img : List ℕ) (w y : ℕ) (xs : List ℕ) where
       ∙ table-on (pixel img w) w d x y (b x u v .0))
 
   pub row-whole : {zs : List ℕ} → Filling zs w → zs ≡ tableOf d (pixel img w) w (y + 1) xs
-  row-whole r = rw (mul-comm w (y + 1), next-row w y) (r .fill)
+  row-whole r = rw (mul-comm w (y + 1), next-row w y) (r .steps .fill)
 
   -- the entries that a run goes on from fit
   pub row-fits : {ys : List ℕ} {lo : ℕ} → Filling ys lo → Above d img w y xs → ((k : ℕ) → getD img k 0 < 256) → (k : ℕ) → k < y * w + lo → getD ys k 0 ≤ 255 * 8192
   unfolding plane
   row-fits {ys} {lo} r a small k b =
-      let l : k < w * (y + 1) = omega (arith, r .room, r .most) in
-      let e : getD ys k 0 ≡ plane w (tableAt d (pixel img w) w) k = rw (r .fill) (getD-filled (y * w + lo) _ xs k 0 b (omega (arith, a .room, r .most))) in
+      let l : k < w * (y + 1) = omega (arith, r .room, r .steps .most) in
+      let e : getD ys k 0 ≡ plane w (tableAt d (pixel img w) w) k = rw (r .steps .fill) (getD-filled (y * w + lo) _ xs k 0 b (omega (arith, a .room, r .steps .most))) in
       rw e (table-most (pixel img w) w d 255 8192 _ _ (pixel-most img w small) (column-in w (y + 1) l) (a .wide) (omega (arith, a .high, row-number-in w (y + 1) l)))
 
 -- ---- the sum that is carried along a row: with the pixel at x it is the entry
@@ -113,4 +113,4 @@ module _ (d : Way) (img : List ℕ) (w h : ℕ) (xs : List ℕ) {ys : List ℕ} 
   }
 
   pub rows-next : {zs : List ℕ} → zs ≡ tableOf d (pixel img w) w (y + 1) ys → Rows w h (tableAt d (pixel img w) w) xs zs (y + 1)
-  rows-next {zs} e = rows-join w h _ xs r (record { most = omega arith; fill = rw (mul-comm (y + 1) w) e; long = length-fill _ _ ys e }) (omega arith)
+  rows-next {zs} e = rows-join w h _ xs r (record { least = omega arith; most = omega arith; fill = rw (mul-comm (y + 1) w) e; long = length-fill _ _ ys e }) (omega arith)

@@ -59,7 +59,7 @@ loop-again c =
     (row-more _ _ _ _ (l .inv .0) (c .before .loop-test .taken) (l .inv .1 .is), carried-more _ _ _ (l .inv .1))
 
 same-length : tie.Need-same-length Inv-loop μ-loop
-same-length c = c .before .loop .inv .0 .long
+same-length c = c .before .loop .inv .0 .steps .long
 
 returns : tie.Need-returns Inv-loop μ-loop
 returns c =

@@ -23,8 +23,8 @@ pub record Runs (factor ray blur w h image : ℕ) (b : Buffers) : Type 0 where
   pub working-room : factor * w * (factor * h) ≤ length (b .working)
   pub row-room : factor * w * (factor * h) ≤ length (b .row)
   pub col-room : factor * w * (factor * h) ≤ length (b .col)
-  pub pos-room : factor * w * (factor * h) ≤ length (b .pos)
-  pub neg-room : factor * w * (factor * h) ≤ length (b .neg)
+  pub falling-room : factor * w * (factor * h) ≤ length (b .falling)
+  pub rising-room : factor * w * (factor * h) ≤ length (b .rising)
   pub response-room : factor * w * (factor * h) ≤ length (b .response)
   pub scratch-room : factor * w * (factor * h) ≤ length (b .scratch)
 
@@ -63,8 +63,8 @@ module _ (w h : ℕ) (p : RadonDetectorParams) (image : ℕ) (b : Buffers) where
         working-room = a .0;
         row-room = one .0;
         col-room = one .1;
-        pos-room = two .0;
-        neg-room = two .1;
+        falling-room = two .0;
+        rising-room = two .1;
         response-room = floats .0;
         scratch-room = floats .1;
       }
