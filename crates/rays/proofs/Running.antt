@@ -11,7 +11,9 @@ use Rattle.grid.specs.Loops.{Rows, Row, row-none, row-read, rows-on, rows-join}
 use Rattle.grid.specs.Span.{span, row-span}
 use Rattle.grid.specs.Ways.{Way, along, down, fall, rise, pixel}
 use Rattle.rays.specs.Tables.{tableAt, tableOf}
-use Rattle.rays.specs.Passes.{Above}
+use Rattle.rays.specs.Passes.{Above, Carries, wayOf}
+use Rattle.rays.specs.declared.cumsums.Diagonal.{Diagonal}
+use Rattle.rays.specs.declared.cumsums.Diagonal.the-variants.{Falling, Rising}
 use Rattle.rays.proofs.Summed.{Begins, Goes, beforex, beforey, table-first, table-on, table-most}
 
 -- how many entries before a pixel's entry that of the pixel before it on the line stands
@@ -71,6 +73,70 @@ module _ (d : Way) (img : List ℕ) (w y : ℕ) (xs : List ℕ) where
       let l : k < w * (y + 1) = omega (arith, r .room, r .most) in
       let e : getD ys k 0 ≡ plane w (tableAt d (pixel img w) w) k = rw (r .fill) (getD-filled (y * w + lo) _ xs k 0 b (omega (arith, a .room, r .most))) in
       rw e (table-most (pixel img w) w d 255 8192 _ _ (pixel-most img w small) (column-in w (y + 1) l) (a .wide) (omega (arith, a .high, row-number-in w (y + 1) l)))
+
+-- ---- a row of a diagonal table
+
+-- the first row begins all
+pub top-row : (d : Diagonal) (img : List ℕ) (w y : ℕ) (xs : List ℕ) {zs : List ℕ} → Above (wayOf d) img w y xs → y ≡ 0
+    → zs ≡ span (y * w) (y * w + w - y * w) (λ i. getD img i 0) xs → zs ≡ tableOf (wayOf d) (pixel img w) w (y + 1) xs
+top-row d img w y xs a e z =
+    row-whole (wayOf d) img w y xs
+    (row-begun (wayOf d) img w y xs (row-start (wayOf d) img w y xs a) (omega arith) (omega arith) (omega arith) refl z (λ x l m. at d x m))
+  where
+    at : (d : Diagonal) (x : ℕ) → x < w → Begins (wayOf d) w x y
+    at Falling x m = omega arith
+    at Rising x m = omega arith
+
+-- another: a falling diagonal begins in the first column, and goes on in the others
+module _ {d : Diagonal} (e : d ≡ Falling) (img : List ℕ) (w y : ℕ) (xs : List ℕ) (some : 0 < w) (lower : 0 < y) (a : Above (wayOf d) img w y xs)
+    {ys : List ℕ} (b : ys ≡ span (y * w) (y * w + 1 - y * w) (λ i. getD img i 0) xs) where
+  fall-above : Above fall img w y xs
+  fall-above = rw e at a
+
+  fall-begun : Filling fall img w y xs ys 1
+  fall-begun = row-begun fall img w y xs (row-start fall img w y xs fall-above) (omega arith) (omega arith) (omega arith) refl b (λ x l m. omega arith)
+
+  pub fall-carries : ((k : ℕ) → getD img k 0 < 256) → Carries img ys (y * w + 1) (y * w + w) (w + 1)
+  fall-carries small =
+      let u = row-above w lower in
+      record {
+        run = omega arith;
+        least = omega arith;
+        apart = omega arith;
+        image = a .image;
+        room = omega (arith, a .room, fall-begun .long);
+        small = λ k l m. row-fits fall img w y xs fall-begun fall-above small k (omega arith);
+      }
+
+  pub fall-row : {zs : List ℕ} → zs ≡ span (y * w + 1) (y * w + w - (y * w + 1)) (λ i. getD ys (i - (w + 1)) 0 + getD img i 0) ys
+      → zs ≡ tableOf (wayOf d) (pixel img w) w (y + 1) xs
+  fall-row z =
+      rw e (row-whole fall img w y xs
+      (row-carried fall img w y xs fall-begun (a .room) (omega arith) (omega arith) refl refl z (λ x l m. omega arith)))
+
+-- a rising one goes on in all columns but the last, and begins there
+module _ {d : Diagonal} (e : d ≡ Rising) (img : List ℕ) (w y : ℕ) (xs : List ℕ) (some : 0 < w) (lower : 0 < y) (a : Above (wayOf d) img w y xs) where
+  rise-above : Above rise img w y xs
+  rise-above = rw e at a
+
+  pub rise-carries : ((k : ℕ) → getD img k 0 < 256) → Carries img xs (y * w) (y * w + w - 1) (w - 1)
+  rise-carries small =
+      let u = row-above w lower in
+      record {
+        run = omega arith;
+        least = omega arith;
+        apart = omega arith;
+        image = omega (arith, a .image);
+        room = omega (arith, a .room);
+        small = λ k l m. row-fits rise img w y xs (row-start rise img w y xs rise-above) rise-above small k (omega arith);
+      }
+
+  pub rise-row : {ys zs : List ℕ} → ys ≡ span (y * w) (y * w + w - 1 - y * w) (λ i. getD xs (i - (w - 1)) 0 + getD img i 0) xs
+      → zs ≡ span (y * w + w - 1) (y * w + w - (y * w + w - 1)) (λ i. getD img i 0) ys → zs ≡ tableOf (wayOf d) (pixel img w) w (y + 1) xs
+  rise-row p q =
+      let r = row-carried rise img w y xs {lo = 0} {hi = w - 1} (row-start rise img w y xs rise-above) (a .room)
+      (omega arith) (omega arith) (omega arith) (omega arith) p (λ x l m. omega arith) in
+      rw e (row-whole rise img w y xs (row-begun rise img w y xs {hi = w} r (omega arith) (omega arith) (omega arith) refl q (λ x l m. omega arith)))
 
 -- ---- the sum that is carried along a row: with the pixel at x it is the entry
 

@@ -12,7 +12,7 @@ use Rattle.grid.specs.Plane.{plane, row-in, pixel-in, row-above, column-of, col
 use Rattle.grid.specs.Span.{span, length-span, getD-before, getD-inside, getD-behind}
 use Rattle.grid.specs.Ways.{down, pixel}
 use Rattle.rays.specs.Tables.{tableAt}
-use Rattle.rays.specs.Passes.{Strip}
+use Rattle.rays.specs.Passes.{Carries, Strip}
 use Rattle.rays.proofs.Summed.{table-first, table-on, table-most}
 use Rattle.rays.proofs.Running.{place, pixel-most}
 
@@ -110,10 +110,16 @@ module _ (img : List ℕ) (w : ℕ) (xs : List ℕ) {a e y : ℕ} (r : Strip w (
       ap (λ (k : ℕ). k + pixel img w x y) (ap (λ (k : ℕ). getD xs k 0) (o .0) ∙ r .done x (y - 1) u v (omega arith)) ∙ table-on (pixel img w) w down x y b)
 
   -- the entries that row y goes on from fit
-  pub strip-fits : ((k : ℕ) → getD img k 0 < 256) → w ≤ 8192 → y < 8192 → 0 < y → (k : ℕ) → y * w + a ≤ k + w → k + w < y * w + e → getD xs k 0 ≤ 255 * 8192
-  strip-fits small u v o k m n =
-      let x = k - (y - 1) * w in
-      let p : k ≡ (y - 1) * w + x = omega (arith, row-above w o) in
-      let q : (a ≤ x) × (x < e) × (x < w) × (y - 1 < 8192) = omega (arith, row-above w o, r .inside) in
-      let c : getD xs k 0 ≡ tableAt down (pixel img w) w x (y - 1) = ap (λ (k : ℕ). getD xs k 0) p ∙ r .done x (y - 1) (q .0) (q .1) (omega arith) in
-      rw c (table-most (pixel img w) w down 255 8192 x (y - 1) (pixel-most img w small) (q .2) u (q .3))
+  pub strip-carries : ((k : ℕ) → getD img k 0 < 256) → w ≤ 8192 → y < 8192 → y * w + w ≤ length img → y * w + w ≤ length xs → 0 < y
+      → Carries img xs (y * w + a) (y * w + e) w
+  strip-carries small u v i j o =
+      let s = row-above w o in
+      record { run = omega arith; least = omega arith; apart = omega (arith, r .inside); image = omega (arith, r .inside); room = omega (arith, r .inside); small = fits }
+    where
+      fits : (k : ℕ) → y * w + a ≤ k + w → k + w < y * w + e → getD xs k 0 ≤ 255 * 8192
+      fits k m n =
+          let x = k - (y - 1) * w in
+          let p : k ≡ (y - 1) * w + x = omega (arith, row-above w o) in
+          let q : (a ≤ x) × (x < e) × (x < w) × (y - 1 < 8192) = omega (arith, row-above w o, r .inside) in
+          let c : getD xs k 0 ≡ tableAt down (pixel img w) w x (y - 1) = ap (λ (k : ℕ). getD xs k 0) p ∙ r .done x (y - 1) (q .0) (q .1) (omega arith) in
+          rw c (table-most (pixel img w) w down 255 8192 x (y - 1) (pixel-most img w small) (q .2) u (q .3))

@@ -183,7 +183,10 @@ fn deep_part(
     a: usize,
     out: &mut [f32],
 )
-    requires { ⌜ (at .r < at .y) × (at .y + at .r < at .h) × (at .r < a) × (a + length (now out) + at .r < at .w) × Readable at (now row) (now col) (now falling) (now rising) ⌝ }
+    requires { ⌜
+        (at .r < at .y) × (at .y + at .r < at .h) × (at .r < a) × (a + length (now out) + at .r < at .w)
+        × Readable at (now row) (now col) (now falling) (now rising)
+        ⌝ }
     ensures { λ _. ⌜ now (out .exit) ≡ filled (length (now (out .entry))) (λ i. readAt (now (row .entry)) at (a + i)) (now (out .entry)) ⌝ }
 {
     let n = out.len();
@@ -201,7 +204,10 @@ fn deep_row(
     at: ImageRow,
     out: &mut [f32],
 )
-    requires { ⌜ (at .r < at .y) × (at .y + at .r < at .h) × (2 * at .r + 2 ≤ at .w) × (length (now out) ≡ at .w) × Readable at (now row) (now col) (now falling) (now rising) ⌝ }
+    requires { ⌜
+        (at .r < at .y) × (at .y + at .r < at .h) × (2 * at .r + 2 ≤ at .w) × (length (now out) ≡ at .w)
+        × Readable at (now row) (now col) (now falling) (now rising)
+        ⌝ }
     ensures { λ _. ⌜ now (out .exit) ≡ filled (at .w) (readAt (now (row .entry)) at) (now (out .entry)) ⌝ }
 {
     let r = at.r;
@@ -246,8 +252,13 @@ pub fn compute_response(
     size: Size,
     out: &mut [f32],
 )
-    requires { ⌜ (size .r ≤ 7) × (size .w * size .h ≤ length (now out)) × Tables (size .w) (size .h) (now row) (now col) (now falling) (now rising) ⌝ }
-    ensures { λ _. ⌜ now (out .exit) ≡ filled (size .w * size .h) (plane (size .w) (responseAt (shown (now (row .entry)) (size .w)) (size .w) (size .h) (size .r))) (now (out .entry)) ⌝ }
+    requires { ⌜
+        (size .r ≤ 7) × (size .w * size .h ≤ length (now out))
+        × Tables (size .w) (size .h) (now row) (now col) (now falling) (now rising)
+        ⌝ }
+    ensures { λ _. ⌜ now (out .exit)
+        ≡ filled (size .w * size .h)
+        (plane (size .w) (responseAt (shown (now (row .entry)) (size .w)) (size .w) (size .h) (size .r))) (now (out .entry)) ⌝ }
 {
     let w = size.w;
     let h = size.h;

@@ -98,10 +98,12 @@ compute-response-requires c κs =
     let b = at-built c in
     let t = at-fits b in
     let m = fit t in
-    let e = b .build-cumsums .ensures in
-    (m .short, m .response-room,
+    let e = b .build-cumsums .ensures in (
+      m .short,
+      m .response-room,
       tables-of (record { room = m .row-room; is = e .0 }) (record { room = m .col-room; is = e .1 }) (record { room = m .falling-room; is = e .2 })
-      (record { room = m .rising-room; is = e .3 }) (m .wide) (m .high) (small (at-radius (t .before) .before)))
+          (record { room = m .rising-room; is = e .3 }) (m .wide) (m .high) (small (at-radius (t .before) .before)),
+    )
 
 same-length : tie.Need-same-length
 same-length c = search needs

@@ -22,7 +22,7 @@ kept : (t : tie.In-loop Inv-loop μ-loop)
 kept t = spanning-before _ _ _ _ (t .before .loop .inv) _ 0 (omega arith)
 
 loop-holds : tie.Need-loop-holds Inv-loop μ-loop
-loop-holds c = spanning-none _ _ _ _ (c .pre .0)
+loop-holds c = spanning-none _ _ _ _ (c .pre .run)
 
 sub-out : tie.Need-sub-out Inv-loop μ-loop
 sub-out c = omega arith
@@ -43,7 +43,7 @@ add-out : tie.Need-add-out Inv-loop μ-loop
 add-out c =
     let t = turn c in
     let k = t .before .loop .i - t .before .before .args .back in
-    omega (arith, kept t, t .before .before .pre .5 k (omega arith) (omega arith), c .shared-slice-known .given (t .before .loop .i))
+    omega (arith, kept t, t .before .before .pre .small k (omega arith) (omega arith), c .shared-slice-known .given (t .before .loop .i))
 
 mul-out-2 : tie.Need-mul-out-2 Inv-loop μ-loop
 mul-out-2 c = omega arith

@@ -115,7 +115,7 @@ squared-spread-requires c κs =
     let s = start4 c in
     let e = rays s in
     let most : (d : Way) → ray d (shown (s .args .row .now) (w s)) (s .args .at .r) (s .args .x) (s .args .at .y) ≤ 61425 =
-        λ d. ray-small (s .pre .1 .tables) d (s .pre .1 .short) (deep-inside (s .pre .0)) in
+    λ d. ray-small (s .pre .1 .tables) d (s .pre .1 .short) (deep-inside (s .pre .0)) in
     (omega (arith, most along), omega (arith, most down), omega (arith, most fall), omega (arith, most rise))
 
 returns : tie.Need-returns

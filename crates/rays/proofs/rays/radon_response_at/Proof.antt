@@ -143,9 +143,12 @@ squared-spread-requires c κs =
     let p = start8 c .pre in
     let f = c .before .before in
     let v = f .before .before in
-    let most : (d : Way) → Ray d (start8 c) ≤ 61425 = λ d. ray-small (p .1 .tables) d (p .1 .short) (p .0) in
-    (omega (arith, most along, on-row (v .before .before) .1), omega (arith, most down, on-col v .1),
-      omega (arith, most fall, on-falling f .1), omega (arith, most rise, on-rising c .1))
+    let most : (d : Way) → Ray d (start8 c) ≤ 61425 = λ d. ray-small (p .1 .tables) d (p .1 .short) (p .0) in (
+      omega (arith, most along, on-row (v .before .before) .1),
+      omega (arith, most down, on-col v .1),
+      omega (arith, most fall, on-falling f .1),
+      omega (arith, most rise, on-rising c .1),
+    )
 
 returns : tie.Need-returns
 returns c =
