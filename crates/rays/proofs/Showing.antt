@@ -8,7 +8,8 @@ use lib.ListN.{length, getD}
 use lib.Ieee.{Float}
 use Rattle.grid.specs.Fill.{filled, length-fill}
 use Rattle.grid.specs.Plane.{plane, plane-ext, row-in}
-use Rattle.grid.specs.Ways.{Way, along, down, fall, rise, runSum, run-ext, ray, ray-most, ray-ext, Holds, holds, Inside, Deep, ray-deep, deep-inside}
+use Rattle.grid.specs.Ways.{Way, along, down, fall, rise, run-ext, ray, ray-most, ray-ext, ray-by, ray-deep, Holds, holds}
+use Rattle.grid.specs.Ways.{Entry, Inside, Deep, endx, endy, lowx, lowy}
 use Rattle.rays.specs.Tables.{tableAt, tableOf}
 use Rattle.rays.specs.Response.{responseAt}
 use Rattle.rays.specs.Shown.{shown, Tables}
@@ -75,14 +76,25 @@ module _ {w h : ℕ} {row col falling rising : List ℕ} (t : Tables w h row col
       let f : ℕ → ℕ → ℕ = λ x y. min (shown row w x y) 4095 in
       omega (arith, ray-ext d (shown row w) f w h r x y m (λ x y a b. omega (arith, t .most x y a b)), ray-most d f 4095 r x y (λ x y. omega arith))
 
-  -- the rows that a table is read in, up to row k counted from 1
-  pub rows-room : (k : ℕ) → k ≤ h
-      → (w ≤ 8192) × (k ≤ 8192) × (w * k ≤ length row) × (w * k ≤ length col) × (w * k ≤ length falling) × (w * k ≤ length rising)
-  rows-room k l = omega (arith, t .wide, t .high, t .row-long, t .col-long, t .falling-long, t .rising-long, mul-le-mul-left w l)
+  -- a table read up to row k, counted from 1
+  pub entry-room : (xs : List ℕ) (k : ℕ) → w * h ≤ length xs → k ≤ h → (w ≤ 8192) × (k ≤ 8192) × (w * k ≤ length xs)
+  entry-room xs k l m = omega (arith, t .wide, t .high, mul-le-mul-left w m)
 
   -- where the rows y, y + r and y - r - 1 end
   pub deep-room : {r x y : ℕ} → Deep w h r x y → (y * w + w ≤ w * h) × ((y + r) * w + w ≤ w * h) × ((y - r - 1) * w + w ≤ w * h)
   deep-room m = (row-in w (omega arith), row-in w (m .below), row-in w (omega arith))
+
+-- the two entries of a ray, as `entry` reads them: the difference does not wrap, and is the ray
+pub ray-between : (d : Way) {f : ℕ → ℕ → ℕ} {w h r x y p q : ℕ} {t : List ℕ} → Holds d f w h t → Inside w h r x y
+    → ((k : ℕ) → endy d y r + 1 ≤ k → Entry t w k (endx d x r + 1) (endy d y r + 1) p)
+    → ((k : ℕ) → lowy d y r ≤ k → Entry t w k (lowx d x r) (lowy d y r) q) → (q ≤ p) × (p - q ≡ ray d f r x y)
+ray-between d {f} {w} {h} {r} {x} {y} s m a b = ray-by d s m (a h (at d .0)) (b h (at d .1))
+  where
+    at : (d : Way) → (endy d y r + 1 ≤ h) × (lowy d y r ≤ h)
+    at along = omega arith
+    at down = omega arith
+    at fall = omega arith
+    at rise = omega arith
 
 -- the eight entries about a pixel that is deep in the image: the differences do not wrap, and are the rays
 pub record DeepRays (w r x y : ℕ) (row col falling rising : List ℕ) : Type 0 where

@@ -1,12 +1,12 @@
 -- `radon_response_at`: the four differences are the four rays, also where an entry is past the edge. Assumes nothing.
 use mathlib.Core.Path.{_≡_, _∙_}
-use Prim.Native.Nat.{ℕ, _+_, _-_, _*_, _≤_}
+use Prim.Native.Nat.{ℕ, _-_, _≤_}
 use native.Mathlib.Omega.{arith}
 use borrow.Author.Needs.{needs}
-use Rattle.grid.specs.Ways.{Way, along, down, fall, rise, ray, ray-by}
+use Rattle.grid.specs.Ways.{Way, along, down, fall, rise, ray}
 use Rattle.rays.specs.Shown.{shown}
 use Rattle.rays.proofs.Inner.{response-in}
-use Rattle.rays.proofs.Showing.{rows-room, ray-small}
+use Rattle.rays.proofs.Showing.{entry-room, ray-between, ray-small}
 use Rattle.rays.proofs.rays.radon_response_at.Statement.{statement}
 use Rattle.rays.proofs.rays.radon_response_at.Tie as tie
 
@@ -30,25 +30,21 @@ Ray d s = ray d (shown (s .args .row .now) (s .args .at .w)) (s .args .at .r) (s
 
 -- ---- each difference does not wrap, and is a ray
 
-on-row : (c : tie.After-entry2) → (c .entry2 .result ≤ c .before .entry .result) × (c .before .entry .result - c .entry2 .result ≡ Ray along (start2 c))
-on-row c =
-    let p = start2 c .pre in
-    ray-by along (p .1 .tables .rows) (p .0) (c .before .entry .ensures _ (omega arith)) (c .entry2 .ensures _ (omega arith))
+on-row : (c : tie.After-entry2)
+    → (c .entry2 .result ≤ c .before .entry .result) × (c .before .entry .result - c .entry2 .result ≡ Ray along (start2 c))
+on-row c = ray-between along (start2 c .pre .1 .tables .rows) (start2 c .pre .0) (c .before .entry .ensures) (c .entry2 .ensures)
 
-on-col : (c : tie.After-entry4) → (c .entry4 .result ≤ c .before .entry3 .result) × (c .before .entry3 .result - c .entry4 .result ≡ Ray down (start4 c))
-on-col c =
-    let p = start4 c .pre in
-    ray-by down (p .1 .tables .columns) (p .0) (c .before .entry3 .ensures _ (omega arith)) (c .entry4 .ensures _ (omega arith))
+on-col : (c : tie.After-entry4)
+    → (c .entry4 .result ≤ c .before .entry3 .result) × (c .before .entry3 .result - c .entry4 .result ≡ Ray down (start4 c))
+on-col c = ray-between down (start4 c .pre .1 .tables .columns) (start4 c .pre .0) (c .before .entry3 .ensures) (c .entry4 .ensures)
 
-on-falling : (c : tie.After-entry6) → (c .entry6 .result ≤ c .before .entry5 .result) × (c .before .entry5 .result - c .entry6 .result ≡ Ray fall (start6 c))
-on-falling c =
-    let p = start6 c .pre in
-    ray-by fall (p .1 .tables .falls) (p .0) (c .before .entry5 .ensures _ (omega arith)) (c .entry6 .ensures _ (omega arith))
+on-falling : (c : tie.After-entry6)
+    → (c .entry6 .result ≤ c .before .entry5 .result) × (c .before .entry5 .result - c .entry6 .result ≡ Ray fall (start6 c))
+on-falling c = ray-between fall (start6 c .pre .1 .tables .falls) (start6 c .pre .0) (c .before .entry5 .ensures) (c .entry6 .ensures)
 
-on-rising : (c : tie.After-entry8) → (c .entry8 .result ≤ c .before .entry7 .result) × (c .before .entry7 .result - c .entry8 .result ≡ Ray rise (start8 c))
-on-rising c =
-    let p = start8 c .pre in
-    ray-by rise (p .1 .tables .rises) (p .0) (c .before .entry7 .ensures _ (omega arith)) (c .entry8 .ensures _ (omega arith))
+on-rising : (c : tie.After-entry8)
+    → (c .entry8 .result ≤ c .before .entry7 .result) × (c .before .entry7 .result - c .entry8 .result ≡ Ray rise (start8 c))
+on-rising c = ray-between rise (start8 c .pre .1 .tables .rises) (start8 c .pre .0) (c .before .entry7 .ensures) (c .entry8 .ensures)
 
 sub-x0 : tie.Need-sub-x0
 sub-x0 c = search needs
@@ -73,16 +69,16 @@ add-entry c = search needs
 
 entry-requires : tie.Need-entry-requires
 entry-requires c κs =
-    let q = rows-room (start c .pre .1 .tables) (start c .args .at .y + 1) (omega arith) in
-    (q .0, q .1, q .2)
+    let s = start c in
+    entry-room (s .pre .1 .tables) (s .args .row .now) _ (s .pre .1 .tables .row-long) (omega arith)
 
 add-entry-2 : tie.Need-add-entry-2
 add-entry-2 c = search needs
 
 entry-requires-2 : tie.Need-entry-requires-2
 entry-requires-2 c κs =
-    let q = rows-room (start (c .before) .pre .1 .tables) (start (c .before) .args .at .y + 1) (omega arith) in
-    (q .0, q .1, q .2)
+    let s = start (c .before) in
+    entry-room (s .pre .1 .tables) (s .args .row .now) _ (s .pre .1 .tables .row-long) (omega arith)
 
 sub-s-h : tie.Need-sub-s-h
 sub-s-h c = on-row c .0
@@ -92,29 +88,29 @@ add-entry-3 c = search needs
 
 entry-requires-3 : tie.Need-entry-requires-3
 entry-requires-3 c κs =
-    let q = rows-room (start2 c .pre .1 .tables) (start2 c .args .at .y + start2 c .args .at .r + 1) (omega arith) in
-    (q .0, q .1, q .3)
+    let s = start2 c in
+    entry-room (s .pre .1 .tables) (s .args .col .now) _ (s .pre .1 .tables .col-long) (omega arith)
 
 add-entry-4 : tie.Need-add-entry-4
 add-entry-4 c = search needs
 
 entry-requires-4 : tie.Need-entry-requires-4
 entry-requires-4 c κs =
-    let q = rows-room (start2 (c .before) .pre .1 .tables) (start2 (c .before) .args .at .y - start2 (c .before) .args .at .r) (omega arith) in
-    (q .0, q .1, q .3)
+    let s = start2 (c .before) in
+    entry-room (s .pre .1 .tables) (s .args .col .now) _ (s .pre .1 .tables .col-long) (omega arith)
 
 sub-s-v : tie.Need-sub-s-v
 sub-s-v c = on-col c .0
 
 entry-requires-5 : tie.Need-entry-requires-5
 entry-requires-5 c κs =
-    let q = rows-room (start4 c .pre .1 .tables) (start4 c .args .at .y + start4 c .args .at .r + 1) (omega arith) in
-    (q .0, q .1, q .4)
+    let s = start4 c in
+    entry-room (s .pre .1 .tables) (s .args .falling .now) _ (s .pre .1 .tables .falling-long) (omega arith)
 
 entry-requires-6 : tie.Need-entry-requires-6
 entry-requires-6 c κs =
-    let q = rows-room (start4 (c .before) .pre .1 .tables) (start4 (c .before) .args .at .y - start4 (c .before) .args .at .r) (omega arith) in
-    (q .0, q .1, q .4)
+    let s = start4 (c .before) in
+    entry-room (s .pre .1 .tables) (s .args .falling .now) _ (s .pre .1 .tables .falling-long) (omega arith)
 
 sub-s-d1 : tie.Need-sub-s-d1
 sub-s-d1 c = on-falling c .0
@@ -124,16 +120,16 @@ add-entry-5 c = omega arith
 
 entry-requires-7 : tie.Need-entry-requires-7
 entry-requires-7 c κs =
-    let q = rows-room (start6 c .pre .1 .tables) (start6 c .args .at .y + start6 c .args .at .r + 1) (omega arith) in
-    (q .0, q .1, q .5)
+    let s = start6 c in
+    entry-room (s .pre .1 .tables) (s .args .rising .now) _ (s .pre .1 .tables .rising-long) (omega arith)
 
 add-entry-6 : tie.Need-add-entry-6
 add-entry-6 c = omega arith
 
 entry-requires-8 : tie.Need-entry-requires-8
 entry-requires-8 c κs =
-    let q = rows-room (start6 (c .before) .pre .1 .tables) (start6 (c .before) .args .at .y - start6 (c .before) .args .at .r) (omega arith) in
-    (q .0, q .1, q .5)
+    let s = start6 (c .before) in
+    entry-room (s .pre .1 .tables) (s .args .rising .now) _ (s .pre .1 .tables .rising-long) (omega arith)
 
 sub-s-d2 : tie.Need-sub-s-d2
 sub-s-d2 c = on-rising c .0
