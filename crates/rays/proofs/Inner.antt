@@ -36,7 +36,8 @@ module _ (f : ℕ → ℕ → ℕ) (w h r x y : ℕ) where
       at true k = absurd (k tt)
       at false k = refl
 
-  pub response-in : Inside w h r x y → {a b c d : ℕ} → a ≡ ray along f r x y → b ≡ ray down f r x y → c ≡ ray fall f r x y → d ≡ ray rise f r x y
+  pub response-in : Inside w h r x y → {a b c d : ℕ} → a ≡ ray along f r x y → b ≡ ray down f r x y → c ≡ ray fall f r x y
+      → d ≡ ray rise f r x y
       → square (spread a b c d) ≡ responseAt f w h r x y
   unfolding responseAt raySpread
   response-in m p q s t = simp (p, q, s, t, within-of w h r x y m)
@@ -66,13 +67,15 @@ response-raised f b w h r x y = simp (ray-raised, max-raised, min-raised, less-r
 
 -- ---- only the pixels inside count
 
-pub spread-ext : (f g : ℕ → ℕ → ℕ) (w h r x y : ℕ) → Inside w h r x y → ((x y : ℕ) → x < w → y < h → f x y ≡ g x y) → raySpread f r x y ≡ raySpread g r x y
+pub spread-ext : (f g : ℕ → ℕ → ℕ) (w h r x y : ℕ) → Inside w h r x y → ((x y : ℕ) → x < w → y < h → f x y ≡ g x y)
+    → raySpread f r x y ≡ raySpread g r x y
 unfolding raySpread
 spread-ext f g w h r x y m e =
     let same : (d : Way) → ray d f r x y ≡ ray d g r x y = λ d. ray-ext d f g w h r x y m e in
     rw (same along, same down, same fall, same rise)
 
-pub response-ext : (f g : ℕ → ℕ → ℕ) (w h r x y : ℕ) → ((x y : ℕ) → x < w → y < h → f x y ≡ g x y) → responseAt f w h r x y ≡ responseAt g w h r x y
+pub response-ext : (f g : ℕ → ℕ → ℕ) (w h r x y : ℕ) → ((x y : ℕ) → x < w → y < h → f x y ≡ g x y)
+    → responseAt f w h r x y ≡ responseAt g w h r x y
 unfolding responseAt
 response-ext f g w h r x y e = at (within w h r x y) (inside-of w h r x y)
   where

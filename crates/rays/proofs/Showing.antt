@@ -27,7 +27,8 @@ module _ {f : ℕ → ℕ → ℕ} {w h : ℕ} {row : List ℕ} (s : Holds along
   shown-is (suc x) y l m = omega (arith, entry-is (suc x) y l m, entry-is x y (omega arith) m)
 
 -- a table of one image is that of another with the same pixels
-holds-ext : {d : Way} {f g : ℕ → ℕ → ℕ} {w h : ℕ} {t : List ℕ} → Holds d f w h t → ((x y : ℕ) → x < w → y < h → f x y ≡ g x y) → Holds d g w h t
+holds-ext : {d : Way} {f g : ℕ → ℕ → ℕ} {w h : ℕ} {t : List ℕ} → Holds d f w h t
+    → ((x y : ℕ) → x < w → y < h → f x y ≡ g x y) → Holds d g w h t
 holds-ext {d} {f} {g} {w} {h} s e = record { at = λ x y l m. s .at x y l m ∙ run-ext d f g w h x y l m e }
 
 -- ---- what `build_cumsums` leaves
@@ -45,7 +46,8 @@ module _ {f : ℕ → ℕ → ℕ} {w h : ℕ} where
   table-long {d} {old} b = omega (arith, b .room, length-fill _ _ old (b .is))
 
   module _ {row₀ row : List ℕ} (p : Built along f w h row₀ row) where
-    pub tables-of : {col₀ col falling₀ falling rising₀ rising : List ℕ} → Built down f w h col₀ col → Built fall f w h falling₀ falling → Built rise f w h rising₀ rising
+    pub tables-of : {col₀ col falling₀ falling rising₀ rising : List ℕ} → Built down f w h col₀ col
+        → Built fall f w h falling₀ falling → Built rise f w h rising₀ rising
         → w ≤ 8192 → h ≤ 8192 → ((x y : ℕ) → f x y ≤ 4095) → Tables w h row col falling rising
     tables-of q s t u v m =
         let same : (x y : ℕ) → x < w → y < h → f x y ≡ shown row w x y = λ x y a b. sym (shown-is (table-holds p) x y a b) in
@@ -64,7 +66,8 @@ module _ {f : ℕ → ℕ → ℕ} {w h : ℕ} where
         }
 
     -- the response of the image that is shown
-    pub response-shown : (r : ℕ) (old : List Float) → filled (w * h) (plane w (responseAt (shown row w) w h r)) old ≡ filled (w * h) (plane w (responseAt f w h r)) old
+    pub response-shown : (r : ℕ) (old : List Float)
+        → filled (w * h) (plane w (responseAt (shown row w) w h r)) old ≡ filled (w * h) (plane w (responseAt f w h r)) old
     response-shown r old = plane-ext w h _ _ old (λ x y a b. response-ext (shown row w) f w h r x y (shown-is (table-holds p)))
 
 -- ---- the rays
@@ -74,7 +77,8 @@ module _ {w h : ℕ} {row col falling rising : List ℕ} (t : Tables w h row col
   pub ray-small : {r x y : ℕ} (d : Way) → r ≤ 7 → Inside w h r x y → ray d (shown row w) r x y ≤ 61425
   ray-small {r} {x} {y} d b m =
       let f : ℕ → ℕ → ℕ = λ x y. min (shown row w x y) 4095 in
-      omega (arith, ray-ext d (shown row w) f w h r x y m (λ x y a b. omega (arith, t .most x y a b)), ray-most d f 4095 r x y (λ x y. omega arith))
+      let e = ray-ext d (shown row w) f w h r x y m (λ x y a b. omega (arith, t .most x y a b)) in
+      omega (arith, e, ray-most d f 4095 r x y (λ x y. omega arith))
 
   -- a table read up to row k, counted from 1
   pub entry-room : (xs : List ℕ) (k : ℕ) → w * h ≤ length xs → k ≤ h → (w ≤ 8192) × (k ≤ 8192) × (w * k ≤ length xs)
@@ -107,7 +111,8 @@ pub record DeepRays (w r x y : ℕ) (row col falling rising : List ℕ) : Type 0
   pub on-rising : (getD rising ((y - r - 1) * w + x + r + 1) 0 ≤ getD rising ((y + r) * w + x - r) 0)
       × (getD rising ((y + r) * w + x - r) 0 - getD rising ((y - r - 1) * w + x + r + 1) 0 ≡ ray rise (shown row w) r x y)
 
-pub deep-rays : {w h r x y : ℕ} {row col falling rising : List ℕ} → Tables w h row col falling rising → Deep w h r x y → DeepRays w r x y row col falling rising
+pub deep-rays : {w h r x y : ℕ} {row col falling rising : List ℕ} → Tables w h row col falling rising → Deep w h r x y
+    → DeepRays w r x y row col falling rising
 deep-rays t m = record {
   on-row = ray-deep along (t .rows) m (omega arith) (omega arith);
   on-col = ray-deep down (t .columns) m (omega arith) (omega arith);

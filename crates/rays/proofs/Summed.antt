@@ -71,14 +71,16 @@ module _ (f : ℕ → ℕ → ℕ) (w : ℕ) where
   sum-first : (d : Way) (x y : ℕ) → x < w → Begins d w x y → f x y ≡ runSum d f w x y
   sum-first d x y l b = run-first d f w x y l (at d b .0) (at d b .1)
     where
-      at : (d : Way) → Begins d w x y → Reach d w (prevx d x) (prevy d y) × (min (min (prevx d x) (prevy d y)) (w + 1 - prevx d x) ≡ 0)
+      at : (d : Way) → Begins d w x y
+          → Reach d w (prevx d x) (prevy d y) × (min (min (prevx d x) (prevy d y)) (w + 1 - prevx d x) ≡ 0)
       at along b = omega arith
       at down b = omega arith
       at fall b = omega arith
       at rise b = omega arith
 
   -- k is the sum at (a, b), the pixel before
-  sum-on : (d : Way) (x y a b : ℕ) {k : ℕ} → x < w → a + 1 ≡ prevx d x → b + 1 ≡ prevy d y → k ≡ runSum d f w a b → k + f x y ≡ runSum d f w x y
+  sum-on : (d : Way) (x y a b : ℕ) {k : ℕ} → x < w → a + 1 ≡ prevx d x → b + 1 ≡ prevy d y → k ≡ runSum d f w a b
+      → k + f x y ≡ runSum d f w x y
   sum-on d x y a b l p q e = add-comm _ _ ∙ run-on d f w x y l (run-at d f w a b (prevx d x) (prevy d y) e p q)
 
   pub table-run : (d : Way) (x y : ℕ) → x < w → tableAt d f w x y ≡ runSum d f w x y
@@ -89,7 +91,8 @@ module _ (f : ℕ → ℕ → ℕ) (w : ℕ) where
   table-run down x (suc y) l = sum-on down x (suc y) x y l (omega arith) (omega arith) (table-run down x y l)
   table-run fall zero y l = sum-first fall zero y l (omega arith)
   table-run fall (suc x) zero l = sum-first fall (suc x) zero l (omega arith)
-  table-run fall (suc x) (suc y) l = sum-on fall (suc x) (suc y) x y l (omega arith) (omega arith) (table-run fall x y (omega arith))
+  table-run fall (suc x) (suc y) l =
+      sum-on fall (suc x) (suc y) x y l (omega arith) (omega arith) (table-run fall x y (omega arith))
   table-run rise x zero l = sum-first rise x zero l (omega arith)
   table-run rise x (suc y) l = at (decLt (suc x) w) (table-run rise (suc x) y)
     where
@@ -99,7 +102,8 @@ module _ (f : ℕ → ℕ → ℕ) (w : ℕ) where
       at (no m) e = rw (le-ltb (suc x) w (omega arith), zero-add) (sum-first rise x (suc y) l (omega arith))
 
   -- no entry passes the greatest pixel times the longer side
-  pub table-most : (d : Way) (top side x y : ℕ) → ((x y : ℕ) → f x y ≤ top) → x < w → w ≤ side → y < side → tableAt d f w x y ≤ top * side
+  pub table-most : (d : Way) (top side x y : ℕ) → ((x y : ℕ) → f x y ≤ top) → x < w → w ≤ side → y < side
+      → tableAt d f w x y ≤ top * side
   table-most d top side x y m l u v = rw (table-run d x y l) (run-most d f top side w (x + 1) (y + 1) m (omega arith) (omega arith))
 
   -- a whole buffer, from one to the other and, by `sym`, back

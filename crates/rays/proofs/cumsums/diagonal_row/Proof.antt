@@ -69,7 +69,8 @@ carry-requires c κs =
     let t = falling b in
     let i = t .before .before .before in
     let s = start i in
-    fall-carries (t .enum-told .given .1) (s .args .img .now) (s .args .w) (s .args .y) _ (s .pre .0) (omega arith) (s .pre .1) (b .before .before .begin2 .ensures) (bytes i)
+    fall-carries (t .enum-told .given .1) (s .args .img .now) (s .args .w) (s .args .y) _ (s .pre .0) (omega arith)
+    (s .pre .1) (b .before .before .begin2 .ensures) (bytes i)
 
 enum-told-2 : tie.Need-enum-told-2
 enum-told-2 c = search needs
@@ -85,7 +86,8 @@ carry-requires-2 c κs =
     let t = c .before in
     let i = t .before .before .before in
     let s = start i in
-    rise-carries (t .enum-told2 .given .1) (s .args .img .now) (s .args .w) (s .args .y) _ (s .pre .0) (omega arith) (s .pre .1) (bytes i)
+    rise-carries (t .enum-told2 .given .1) (s .args .img .now) (s .args .w) (s .args .y) _ (s .pre .0) (omega arith)
+    (s .pre .1) (bytes i)
 
 sub-begin : tie.Need-sub-begin
 sub-begin c = search needs
@@ -101,7 +103,8 @@ returns-2 c =
     let b = begun c in
     let t = falling b in
     let s = start (t .before .before .before) in
-    fall-row (t .enum-told .given .1) (s .args .img .now) (s .args .w) (s .args .y) _ (s .pre .0) (omega arith) (s .pre .1) (b .before .before .begin2 .ensures) (c .before .before .carry .ensures)
+    fall-row (t .enum-told .given .1) (s .args .img .now) (s .args .w) (s .args .y) _ (s .pre .0) (omega arith) (s .pre .1)
+    (b .before .before .begin2 .ensures) (c .before .before .carry .ensures)
 
 same-length-3 : tie.Need-same-length-3
 same-length-3 c = search needs
@@ -111,10 +114,12 @@ returns-3 c =
     let b = carried c in
     let t = rising b in
     let s = start (t .before .before .before) in
-    rise-row (t .enum-told2 .given .1) (s .args .img .now) (s .args .w) (s .args .y) _ (s .pre .0) (omega arith) (s .pre .1) (b .before .before .carry2 .ensures) (c .before .before .begin3 .ensures)
+    rise-row (t .enum-told2 .given .1) (s .args .img .now) (s .args .w) (s .args .y) _ (s .pre .0) (omega arith)
+    (s .pre .1) (b .before .before .carry2 .ensures) (c .before .before .begin3 .ensures)
 
 pub diagonal-row-spec : {M : Type 1} → statement M
 diagonal-row-spec =
     tie.close
-    (tie.spec mul-row add-end begin-requires same-length returns enum-told add-begin begin-requires-2 add-carry add-carry-2 carry-requires
+    (tie.spec mul-row add-end begin-requires same-length returns enum-told add-begin begin-requires-2 add-carry add-carry-2
+    carry-requires
     enum-told-2 sub-carry sub-carry-2 carry-requires-2 sub-begin begin-requires-3 same-length-2 returns-2 same-length-3 returns-3)

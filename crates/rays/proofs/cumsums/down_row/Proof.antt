@@ -46,7 +46,8 @@ carry-requires c κs =
     let i = c .before .before in
     let s = start i in
     let p = s .pre in
-    strip-carries (s .args .img .now) _ _ (p .5) (p .2) (λ k. omega (arith, i .before .shared-slice-known .given k)) (p .0) (p .1) (p .3) (p .4) (omega arith)
+    strip-carries (s .args .img .now) _ _ (p .5) (p .2) (λ k. omega (arith, i .before .shared-slice-known .given k)) (p .0)
+    (p .1) (p .3) (p .4) (omega arith)
 
 same-length-2 : tie.Need-same-length-2
 same-length-2 c = search needs
@@ -59,4 +60,5 @@ returns-2 c =
 pub down-row-spec : {M : Type 1} → statement M
 down-row-spec =
     tie.close
-    (tie.spec mul-row add-begin add-begin-2 begin-requires same-length returns add-carry add-carry-2 carry-requires same-length-2 returns-2)
+    (tie.spec mul-row add-begin add-begin-2 begin-requires same-length returns add-carry add-carry-2 carry-requires
+    same-length-2 returns-2)

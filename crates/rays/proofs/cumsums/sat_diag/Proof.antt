@@ -42,7 +42,8 @@ loop-less c = omega arith
 loop-again : tie.Need-loop-again Inv-loop μ-loop
 loop-again c =
     let t = turn c in
-    rows-next (wayOf (start (t .before) .args .d)) (start (t .before) .args .img .now) _ _ _ (t .before .loop .inv) (t .loop-test .taken) (c .before .before .diagonal-row .ensures)
+    rows-next (wayOf (start (t .before) .args .d)) (start (t .before) .args .img .now) _ _ _ (t .before .loop .inv)
+    (t .loop-test .taken) (c .before .before .diagonal-row .ensures)
 
 same-length : tie.Need-same-length Inv-loop μ-loop
 same-length c = c .before .loop .inv .long
@@ -51,4 +52,5 @@ returns-2 : tie.Need-returns-2 Inv-loop μ-loop
 returns-2 c = rows-all _ _ _ _ (c .before .loop .inv) (c .loop-test .left)
 
 pub sat-diag-spec : {M : Type 1} → statement M
-sat-diag-spec = tie.close (tie.spec Inv-loop μ-loop returns loop-holds diagonal-row-requires add-y loop-less loop-again same-length returns-2)
+sat-diag-spec =
+    tie.close (tie.spec Inv-loop μ-loop returns loop-holds diagonal-row-requires add-y loop-less loop-again same-length returns-2)

@@ -133,6 +133,7 @@ returns c =
 pub deep-response-spec : {M : Type 1} → statement M
 deep-response-spec =
     tie.close
-    (tie.spec mul-here add-here add-below mul-below add-below-2 sub-above sub-above-2 mul-above add-above add-difference sub-difference sub-difference-2
+    (tie.spec mul-here add-here add-below mul-below add-below-2 sub-above sub-above-2 mul-above add-above add-difference
+    sub-difference sub-difference-2
     difference-requires difference-requires-2 add-difference-2 sub-difference-3 sub-difference-4 difference-requires-3
     sub-difference-5 add-difference-3 add-difference-4 difference-requires-4 squared-spread-requires returns)

@@ -46,4 +46,6 @@ returns-4 : tie.Need-returns-4
 returns-4 c = λ h l. record { is = λ d f s r. holds-at s _ _ (omega arith) (omega arith) (omega arith) (omega arith) refl }
 
 pub entry-spec : {M : Type 1} → statement M
-entry-spec = tie.close (tie.spec returns returns-2 returns-3 sub-result mul-result sub-result-2 add-result mul-result-2 shared-slice-read-result returns-4)
+entry-spec =
+    tie.close (tie.spec returns returns-2 returns-3 sub-result mul-result sub-result-2 add-result mul-result-2
+    shared-slice-read-result returns-4)

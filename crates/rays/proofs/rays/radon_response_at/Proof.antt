@@ -40,11 +40,13 @@ on-col c = ray-between down (start4 c .pre .1 .tables .columns) (start4 c .pre .
 
 on-falling : (c : tie.After-entry6)
     → (c .entry6 .result ≤ c .before .entry5 .result) × (c .before .entry5 .result - c .entry6 .result ≡ Ray fall (start6 c))
-on-falling c = ray-between fall (start6 c .pre .1 .tables .falls) (start6 c .pre .0) (c .before .entry5 .ensures) (c .entry6 .ensures)
+on-falling c =
+    ray-between fall (start6 c .pre .1 .tables .falls) (start6 c .pre .0) (c .before .entry5 .ensures) (c .entry6 .ensures)
 
 on-rising : (c : tie.After-entry8)
     → (c .entry8 .result ≤ c .before .entry7 .result) × (c .before .entry7 .result - c .entry8 .result ≡ Ray rise (start8 c))
-on-rising c = ray-between rise (start8 c .pre .1 .tables .rises) (start8 c .pre .0) (c .before .entry7 .ensures) (c .entry8 .ensures)
+on-rising c =
+    ray-between rise (start8 c .pre .1 .tables .rises) (start8 c .pre .0) (c .before .entry7 .ensures) (c .entry8 .ensures)
 
 sub-x0 : tie.Need-sub-x0
 sub-x0 c = search needs
