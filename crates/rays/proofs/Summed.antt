@@ -11,7 +11,7 @@ use lib.Dec.{ltb}
 use borrow.Author.Tests.{lt-ltb, le-ltb}
 use Rattle.grid.specs.Fill.{filled}
 use Rattle.grid.specs.Plane.{plane, plane-ext}
-use Rattle.grid.specs.Ways.{Way, along, down, fall, rise, runSum, prevx, prevy, Reach, run-first, run-on, run-at, run-most}
+use Rattle.grid.specs.Ways.{Way, along, down, fall, rise, runSum, prevx, prevy, Reach, run-first, run-on, run-at, run-most, run-ext}
 use Rattle.rays.specs.Tables.{tableAt, tableOf}
 
 -- the pixel before x and y on its line
@@ -109,3 +109,9 @@ module _ (f : ℕ → ℕ → ℕ) (w : ℕ) where
   -- a whole buffer, from one to the other and, by `sym`, back
   pub table-filled : (d : Way) (h : ℕ) (old : List ℕ) → tableOf d f w h old ≡ filled (w * h) (plane w (runSum d f w)) old
   table-filled d h old = plane-ext w h _ _ old (λ x y l m. table-run d x y l)
+
+-- two images with the same pixels have the same tables
+pub table-ext : (d : Way) (f g : ℕ → ℕ → ℕ) (w h : ℕ) (old : List ℕ) → ((x y : ℕ) → x < w → y < h → f x y ≡ g x y)
+    → tableOf d f w h old ≡ tableOf d g w h old
+table-ext d f g w h old e =
+    plane-ext w h _ _ old (λ x y l m. table-run f w d x y l ∙ run-ext d f g w h x y l m e ∙ sym (table-run g w d x y l))

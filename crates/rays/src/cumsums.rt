@@ -1,4 +1,4 @@
-// The four tables: running sums of an image along its rows, its columns, and its falling and rising diagonals, a row at a time from the one above.
+// The four tables: running sums of an image along its rows, columns, falling and rising diagonals. A row goes on from the one above.
 use sizes::lesser;
 ghost use mathlib.Core.Path.{_≡_};
 ghost use Prim.Native.Nat.{_+_, _-_, _*_, _<_, _≤_};
@@ -18,7 +18,7 @@ fn begin(img: &[u8], a: usize, e: usize, out: &mut [u32])
     }
 }
 
-// Entries a to e - 1, whose lines go on from the entry that is `back` before, in the row above: no branch, and no entry leans on another of the run.
+// Entries a to e - 1, whose lines go on from the entry that is `back` before: no branch, and no entry leans on another of the run.
 fn carry(img: &[u8], a: usize, e: usize, back: usize, out: &mut [u32])
     requires { ⌜ Carries (now img) (now out) a e back ⌝ }
     ensures { λ _. ⌜ now (out .exit)

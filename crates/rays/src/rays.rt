@@ -8,7 +8,7 @@ ghost use Rattle.grid.specs.Ways.{Entry, Inside, Deep};
 ghost use Rattle.rays.specs.Response.{spread, square, responseAt};
 ghost use Rattle.rays.specs.Shown.{shown, Tables, readAt, Readable};
 
-// The sides of an image, and the radius of the rays in it.
+// The sides of an image, and the radius of its rays.
 pub struct Size {
     pub w: usize,
     pub h: usize,
@@ -122,7 +122,7 @@ fn response_or_zero(
     radon_response_at(row, col, falling, rising, at, x)
 }
 
-// The part of a row that starts at column a, as far as `out` goes, wherever it is.
+// A row from column a on, as far as `out` goes, by the tests of each pixel.
 fn edge_part(
     row: &[u32],
     col: &[u32],
@@ -173,7 +173,7 @@ fn deep_response(
     squared_spread(s_h, s_v, s_d1, s_d2)
 }
 
-// The same of columns that are more than r from the left edge and from the right one.
+// The same without a test, where the columns are more than r from the left edge and from the right one.
 fn deep_part(
     row: &[u32],
     col: &[u32],
@@ -219,6 +219,7 @@ fn deep_row(
     edge_part(row, col, falling, rising, at, last, &mut out[last..end]);
 }
 
+// Row y: by the tests of each pixel where it is near the top or the bottom, or the image narrow.
 fn compute_response_row(
     row: &[u32],
     col: &[u32],
