@@ -1,18 +1,22 @@
 -- The image that the tables show is the image that they are of, and the eight entries about a pixel give its rays. Assumes nothing.
 use mathlib.Core.Path.{_≡_, refl, sym, ap, _∙_}
+use mathlib.Core.Bool.{cond}
 use mathlib.Core.List.{List}
 use Prim.Native.Nat.{ℕ, zero, suc, _+_, _-_, _*_, _≤_, _<_, min}
 use native.Mathlib.Nat.{mul-le-mul-left}
 use native.Mathlib.Omega.{arith}
+use native.Mathlib.Decide.{decLt}
+use lib.Dec.{ltb, leb}
 use lib.ListN.{length, getD}
 use lib.Ieee.{Float}
+use borrow.Author.Tests.{lt-ltb, le-ltb, le-leb, lt-leb}
 use Rattle.grid.specs.Fill.{filled, length-fill}
 use Rattle.grid.specs.Plane.{plane, plane-ext, row-in}
 use Rattle.grid.specs.Ways.{Way, along, down, fall, rise, run-ext, ray, ray-most, ray-ext, ray-by, ray-deep, Holds, holds}
-use Rattle.grid.specs.Ways.{Entry, Inside, Deep, endx, endy, lowx, lowy}
+use Rattle.grid.specs.Ways.{Entry, Reach, Inside, Deep, upTo, none-past, holds-at, endx, endy, lowx, lowy}
 use Rattle.rays.specs.Tables.{tableAt, tableOf}
 use Rattle.rays.specs.Response.{responseAt}
-use Rattle.rays.specs.Shown.{shown, Tables}
+use Rattle.rays.specs.Shown.{shown, entryAt, Between, Tables}
 use Rattle.rays.proofs.Summed.{table-run, table-filled}
 use Rattle.rays.proofs.Inner.{response-ext}
 
@@ -80,21 +84,45 @@ module _ {w h : ℕ} {row col falling rising : List ℕ} (t : Tables w h row col
       let e = ray-ext d (shown row w) f w h r x y m (λ x y a b. omega (arith, t .most x y a b)) in
       omega (arith, e, ray-most d f 4095 r x y (λ x y. omega arith))
 
-  -- a table read up to row k, counted from 1
-  pub entry-room : (xs : List ℕ) (k : ℕ) → w * h ≤ length xs → k ≤ h → (w ≤ 8192) × (k ≤ 8192) × (w * k ≤ length xs)
-  entry-room xs k l m = omega (arith, t .wide, t .high, mul-le-mul-left w m)
-
   -- where the rows y, y + r and y - r - 1 end
   pub deep-room : {r x y : ℕ} → Deep w h r x y → (y * w + w ≤ w * h) × ((y + r) * w + w ≤ w * h) × ((y - r - 1) * w + w ≤ w * h)
   deep-room m = (row-in w (omega arith), row-in w (m .below), row-in w (omega arith))
 
--- the two entries of a ray, as `entry` reads them: the difference does not wrap, and is the ray
-pub ray-between : (d : Way) {f : ℕ → ℕ → ℕ} {w h r x y p q : ℕ} {t : List ℕ} → Holds d f w h t → Inside w h r x y
-    → ((k : ℕ) → endy d y r + 1 ≤ k → Entry t w k (endx d x r + 1) (endy d y r + 1) p)
-    → ((k : ℕ) → lowy d y r ≤ k → Entry t w k (lowx d x r) (lowy d y r) q) → (q ≤ p) × (p - q ≡ ray d f r x y)
-ray-between d {f} {w} {h} {r} {x} {y} s m a b = ray-by d s m (a h (at d .0)) (b h (at d .1))
+-- an entry that may be past the edge
+entry-at : (t : List ℕ) (w h x y : ℕ) → y ≤ h → Entry t w h x y (entryAt t w x y)
+unfolding entryAt
+entry-at t w h x y l = record { is = λ d f s r. at d f s r (decLt 0 x) (decLt 0 y) (decLt w x) }
   where
-    at : (d : Way) → (endy d y r + 1 ≤ h) × (lowy d y r ≤ h)
+    at : (d : Way) (f : ℕ → ℕ → ℕ) → Holds d f w h t → Reach d w x y → Dec (0 < x) → Dec (0 < y) → Dec (w < x)
+        → cond (ltb 0 x) (cond (ltb 0 y) (cond (leb x w) (getD t ((y - 1) * w + (x - 1)) 0) 0) 0) 0 ≡ upTo d f w x y
+    at d f s r (no a) b c = rw (le-ltb 0 x (omega arith)) (none-past d f w x y r (omega arith))
+    at d f s r (yes a) (no b) c = rw (lt-ltb 0 x a, le-ltb 0 y (omega arith)) (none-past d f w x y r (omega arith))
+    at d f s r (yes a) (yes b) (yes c) = rw (lt-ltb 0 x a, lt-ltb 0 y b, lt-leb x w c) (none-past d f w x y r (omega arith))
+    at d f s r (yes a) (yes b) (no c) =
+        rw (lt-ltb 0 x a, lt-ltb 0 y b, le-leb x w (omega arith)) (holds-at s x y a (omega arith) b l refl)
+
+-- the two entries of a ray: the difference does not wrap, and is the ray
+pub record EdgeRay (d : Way) (f : ℕ → ℕ → ℕ) (t : List ℕ) (w r x y : ℕ) : Type 0 where
+  pub reads : Between t w (lowx d x r) (lowy d y r) (endx d x r + 1) (endy d y r + 1)
+  pub is : entryAt t w (endx d x r + 1) (endy d y r + 1) - entryAt t w (lowx d x r) (lowy d y r) ≡ ray d f r x y
+
+pub edge-ray : (d : Way) {f : ℕ → ℕ → ℕ} {w h r x y : ℕ} {t : List ℕ} → Holds d f w h t → Inside w h r x y → w ≤ 8192
+    → h ≤ 8192 → w * h ≤ length t
+    → EdgeRay d f t w r x y
+edge-ray d {f} {w} {h} {r} {x} {y} {t} s m u v l =
+    let k = at d in
+    let e = ray-by d s m (entry-at t w h _ _ (k .1)) (entry-at t w h _ _ (k .0)) in
+    record {
+      reads = record {
+        wide = u;
+        high = (omega arith, omega arith);
+        long = (omega (arith, mul-le-mul-left w (k .0)), omega (arith, mul-le-mul-left w (k .1)));
+        least = e .0;
+      };
+      is = e .1;
+    }
+  where
+    at : (d : Way) → (lowy d y r ≤ h) × (endy d y r + 1 ≤ h)
     at along = omega arith
     at down = omega arith
     at fall = omega arith
