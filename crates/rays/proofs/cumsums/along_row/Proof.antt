@@ -36,7 +36,11 @@ cast-acc c = omega (arith, c .shared-slice-known .given (turn c .before .args .y
 add-acc-2 : tie.Need-add-acc-2 Inv-loop μ-loop
 add-acc-2 c =
     let s = turn c .before in
-    omega (arith, carried-fits _ _ _ (turn c .loop .inv .1) (λ k. omega (arith, c .shared-slice-known .given k)) (c .before .loop-test .taken) (s .pre .wide) (s .pre .high))
+    omega (
+      arith,
+      carried-fits _ _ _ (turn c .loop .inv .1) (λ k. omega (arith, c .shared-slice-known .given k))
+          (c .before .loop-test .taken) (s .pre .wide) (s .pre .high),
+    )
 
 add-out : tie.Need-add-out Inv-loop μ-loop
 add-out c = omega arith
