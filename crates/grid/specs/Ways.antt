@@ -4,6 +4,7 @@ use mathlib.Core.Path.{_≡_}
 use Prim.Native.Nat.{ℕ, _+_, _-_, _*_, _≤_, _<_, min}
 use mathlib.Core.List.{List}
 use lib.ListN.{getD}
+use lib.Ieee.{Float, nan}
 use Rattle.grid.specs.Fold.{sumTo}
 
 -- what a buffer w wide has at column x of row y

@@ -51,13 +51,15 @@ module _ (w h r n : ℕ) (b : Lent) where
   fit-so f = true-both (le-leb r 7 (f .short)) (fits-so (record { wide = f .wide; high = f .high; inside = omega arith }))
 
   -- sizes fit, so the plain value
-  pub rays-plain : (f : ℕ → ℕ → ℕ) {after : Lent} → Fitted w h r n b → after ≡ cond (raysFit w h r n b) (raysOf f w h r b) b → after ≡ raysOf f w h r b
+  pub rays-plain : (f : ℕ → ℕ → ℕ) {after : Lent} → Fitted w h r n b
+      → after ≡ cond (raysFit w h r n b) (raysOf f w h r b) b → after ≡ raysOf f w h r b
   rays-plain f m e = e ∙ ap (λ (t : Bool). cond t (raysOf f w h r b) b) (fit-so m)
 
 -- ---- the door's own cases
 
 -- the room, as the code finds it
-pub room-by : (n : ℕ) (b : Lent) {one two tables both room : ℕ} → one ≡ min (length (b .row)) (length (b .col)) → two ≡ min (length (b .falling)) (length (b .rising))
+pub room-by : (n : ℕ) (b : Lent) {one two tables both room : ℕ} → one ≡ min (length (b .row)) (length (b .col))
+    → two ≡ min (length (b .falling)) (length (b .rising))
     → tables ≡ min one two → both ≡ min n (length (b .response)) → room ≡ min both tables → room ≡ roomOf n b
 room-by n b p q s t u = rw (u, t, s, p, q)
 
@@ -77,7 +79,8 @@ module _ (f : ℕ → ℕ → ℕ) (w h r n : ℕ) (b : Lent) where
 
   -- what the passes leave
   pub when-done : Fitted w h r n b → {row col falling rising : List ℕ} {response : List Float}
-      → row ≡ tableOf along f w h (b .row) → col ≡ tableOf down f w h (b .col) → falling ≡ tableOf fall f w h (b .falling) → rising ≡ tableOf rise f w h (b .rising)
+      → row ≡ tableOf along f w h (b .row) → col ≡ tableOf down f w h (b .col) → falling ≡ tableOf fall f w h (b .falling)
+      → rising ≡ tableOf rise f w h (b .rising)
       → response ≡ filled (w * h) (plane w (responseAt (shown row w) w h r)) (b .response)
       → tabled row col falling rising response ≡ cond (raysFit w h r n b) (raysOf f w h r b) b
   unfolding raysOf

@@ -1,5 +1,5 @@
--- Facts about the response: which pixels are inside, all zero in a narrow or low image, the same for a raised image, and from the pixels inside alone.
--- Assumes nothing.
+-- Facts about the response: which pixels are inside, all zero in a narrow or low image, the same for a raised image,
+-- and from the pixels inside alone. Assumes nothing.
 use mathlib.Core.Path.{_≡_, refl, sym, ap, _∙_}
 use mathlib.Core.Bool.{Bool, true, false, cond, _&&_}
 use Prim.Native.Nat.{ℕ, _+_, _-_, _*_, _≤_, _<_, min, max}
@@ -37,7 +37,8 @@ module _ (f : ℕ → ℕ → ℕ) (w h r x y : ℕ) where
       at true k = absurd (k tt)
       at false k = refl
 
-  pub response-in : Inside w h r x y → {a b c d : ℕ} → a ≡ ray along f r x y → b ≡ ray down f r x y → c ≡ ray fall f r x y → d ≡ ray rise f r x y
+  pub response-in : Inside w h r x y → {a b c d : ℕ} → a ≡ ray along f r x y → b ≡ ray down f r x y → c ≡ ray fall f r x y
+      → d ≡ ray rise f r x y
       → square (spread a b c d) ≡ responseAt f w h r x y
   unfolding responseAt raySpread
   response-in m p q s t = simp (p, q, s, t, within-of w h r x y m)
@@ -67,13 +68,15 @@ response-raised f b w h r x y = simp (ray-raised, max-raised, min-raised, less-r
 
 -- ---- only the pixels inside count
 
-pub spread-ext : (f g : ℕ → ℕ → ℕ) (w h r x y : ℕ) → Inside w h r x y → ((x y : ℕ) → x < w → y < h → f x y ≡ g x y) → raySpread f r x y ≡ raySpread g r x y
+pub spread-ext : (f g : ℕ → ℕ → ℕ) (w h r x y : ℕ) → Inside w h r x y → ((x y : ℕ) → x < w → y < h → f x y ≡ g x y)
+    → raySpread f r x y ≡ raySpread g r x y
 unfolding raySpread
 spread-ext f g w h r x y m e =
     let same : (d : Way) → ray d f r x y ≡ ray d g r x y = λ d. ray-ext d f g w h r x y m e in
     rw (same along, same down, same fall, same rise)
 
-pub response-ext : (f g : ℕ → ℕ → ℕ) (w h r x y : ℕ) → ((x y : ℕ) → x < w → y < h → f x y ≡ g x y) → responseAt f w h r x y ≡ responseAt g w h r x y
+pub response-ext : (f g : ℕ → ℕ → ℕ) (w h r x y : ℕ) → ((x y : ℕ) → x < w → y < h → f x y ≡ g x y)
+    → responseAt f w h r x y ≡ responseAt g w h r x y
 unfolding responseAt
 response-ext f g w h r x y e = at (within w h r x y) (inside-of w h r x y)
   where

@@ -7,3 +7,4 @@ pub mod Inner
 pub mod SpreadExact
 pub mod Showing
 pub mod Fit
+pub mod Alike

@@ -16,10 +16,12 @@ module _ {ℓ} {A : Type ℓ} (f : ℕ → A) (xs : List A) where
 
   -- the entries below a are done, and those from a and below e are filled as a part
   pub part-more : {ys zs : List A} (a e : ℕ) → ys ≡ filled a f xs → a ≤ e → e ≤ length xs
-      → zs ≡ filled (length (take (e - a) (drop a ys))) (λ i. f (a + i)) (take (e - a) (drop a ys)) → take a ys ++ (zs ++ drop (e - a) (drop a ys)) ≡ filled e f xs
+      → zs ≡ filled (length (take (e - a) (drop a ys))) (λ i. f (a + i)) (take (e - a) (drop a ys))
+      → take a ys ++ (zs ++ drop (e - a) (drop a ys)) ≡ filled e f xs
   part-more {ys} {zs} a e y l m z =
       let n : a + (e - a) ≡ e = omega arith in
-      let p : zs ≡ filled (e - a) (λ i. f (a + i)) (take (e - a) (drop a ys)) = z ∙ ap (λ (k : ℕ). filled k (λ i. f (a + i)) (take (e - a) (drop a ys))) (part-long a e y l m) in
+      let p : zs ≡ filled (e - a) (λ i. f (a + i)) (take (e - a) (drop a ys)) =
+      z ∙ ap (λ (k : ℕ). filled k (λ i. f (a + i)) (take (e - a) (drop a ys))) (part-long a e y l m) in
       rw p (fill-part a (e - a) f (λ i. f (a + i)) xs y (λ j b. refl) ∙ ap (λ (k : ℕ). filled k f xs) n)
 
   -- the whole as one part

@@ -45,7 +45,8 @@ module _ (f : ℕ → ℕ → ℕ) (r x y : ℕ) (l : r ≤ 7) where
   pub spread-exact : ((x y : ℕ) → f x y ≤ 4095) → HasValue (ofInt binary32 (pos (raySpread f r x y))) false (raySpread f r x y) 1
   spread-exact m = cast-exact (raySpread f r x y) (omega (arith, spread-most f 4095 r x y m))
 
-  pub rounded-once : ((x y : ℕ) → f x y ≤ 4095) → square (raySpread f r x y) ≡ ofInt binary32 (pos (raySpread f r x y * raySpread f r x y))
+  pub rounded-once : ((x y : ℕ) → f x y ≤ 4095)
+      → square (raySpread f r x y) ≡ ofInt binary32 (pos (raySpread f r x y * raySpread f r x y))
   rounded-once m = square-once (raySpread f r x y) (omega (arith, spread-most f 4095 r x y m))
 
   -- eight bits: "for radius 7 or less the f32 response is exactly that whole number"
@@ -71,7 +72,8 @@ square-values n b = elim (eq-zero-or-pos n) [
   | inr p ↦ inr (record { n = n * n; least = mul-pos p p; greatest = mul-le-mul b b; is = square-exact n (omega arith) })
 ]
 
-pub response-values : (f : ℕ → ℕ → ℕ) (w h r x y : ℕ) → ((x y : ℕ) → f x y ≤ 255) → r ≤ 7 → (responseAt f w h r x y ≡ f0) ⊎ Whole 14630625 (responseAt f w h r x y)
+pub response-values : (f : ℕ → ℕ → ℕ) (w h r x y : ℕ) → ((x y : ℕ) → f x y ≤ 255) → r ≤ 7
+    → (responseAt f w h r x y ≡ f0) ⊎ Whole 14630625 (responseAt f w h r x y)
 unfolding responseAt
 response-values f w h r x y m l = at (within w h r x y)
   where

@@ -15,7 +15,7 @@ use Rattle.grid.specs.Span.{span}
 use Rattle.grid.proofs.Span.{length-span, getD-before, getD-inside, getD-behind}
 use Rattle.grid.specs.Ways.{down, pixel}
 use Rattle.rays.specs.Tables.{tableAt}
-use Rattle.rays.specs.Passes.{Strip}
+use Rattle.rays.specs.Passes.{Carries, Strip}
 use Rattle.rays.proofs.Summed.{table-first, table-on, table-most}
 use Rattle.rays.proofs.Running.{place, pixel-most}
 
@@ -30,7 +30,8 @@ module _ (w : ℕ) (g : ℕ → ℕ → ℕ) (xs : List ℕ) where
 
   -- a run that fills row y of the strip
   pub strip-more : (f : ℕ → ℕ) {ys zs : List ℕ} {a e y : ℕ} → Strip w g xs ys a e y → y * w + w ≤ length xs → a ≤ e
-      → zs ≡ span (y * w + a) (y * w + e - (y * w + a)) f ys → ((x : ℕ) → a ≤ x → x < e → f (y * w + x) ≡ g x y) → Strip w g xs zs a e (y + 1)
+      → zs ≡ span (y * w + a) (y * w + e - (y * w + a)) f ys → ((x : ℕ) → a ≤ x → x < e → f (y * w + x) ≡ g x y)
+      → Strip w g xs zs a e (y + 1)
   strip-more f {ys} {zs} {a} {e} {y} r room m z v = record {
     inside = r .inside;
     done = λ x b s t u. rw z (done x b s t u);
@@ -48,11 +49,16 @@ module _ (w : ℕ) (g : ℕ → ℕ → ℕ) (xs : List ℕ) where
       done x b s t u =
           let n : b ≤ y = omega arith in
           elim (eq-or-lt-of-le n) [
-            | inl c ↦ rw c (getD-inside i (j - i) f ys (y * w + x) 0 (omega arith) (omega arith) (omega (arith, r .long, r .inside)) ∙ v x s t)
-            | inr c ↦ getD-before i (j - i) f ys (b * w + x) 0 (omega (arith, earlier w {x = x} {b = b} {y = y} (omega (arith, r .inside)) c)) ∙ r .done x b s t c
+            | inl c ↦
+                let o : y * w + x < length ys = omega (arith, r .long, r .inside) in
+                rw c (getD-inside i (j - i) f ys (y * w + x) 0 (omega arith) (omega arith) o ∙ v x s t)
+            | inr c ↦
+                let o : x < w = omega (arith, r .inside) in
+                getD-before i (j - i) f ys (b * w + x) 0 (omega (arith, earlier w {x = x} {b = b} {y = y} o c)) ∙ r .done x b s t c
           ]
 
-      same : (k : ℕ) → ((x b : ℕ) → a ≤ x → x < e → b < y + 1 → k ≡ b * w + x → ⊥) → Dec (k < i) → Dec (k < j) → getD (span i (j - i) f ys) k 0 ≡ getD xs k 0
+      same : (k : ℕ) → ((x b : ℕ) → a ≤ x → x < e → b < y + 1 → k ≡ b * w + x → ⊥) → Dec (k < i) → Dec (k < j)
+          → getD (span i (j - i) f ys) k 0 ≡ getD xs k 0
       same k n (yes c) d = getD-before i (j - i) f ys k 0 c ∙ r .same k (λ x b s t u o. n x b s t (omega arith) o)
       same k n (no c) (yes d) = absurd (n (k - y * w) y (omega arith) (omega arith) (omega arith) (omega arith))
       same k n (no c) (no d) = getD-behind i (j - i) f ys k 0 (omega arith) ∙ r .same k (λ x b s t u o. n x b s t (omega arith) o)
@@ -92,7 +98,9 @@ module _ (w : ℕ) (g : ℕ → ℕ → ℕ) (xs : List ℕ) where
   strip-all {ys} {x} {h} r m = filled-intro 0 (w * h) (plane w g) xs ys (r .long) at past
     where
       at : (k : ℕ) → k < w * h → k < length ys → getD ys k 0 ≡ plane w g k
-      at k b l = sym (ap (λ (n : ℕ). getD ys n 0) (div-add-mod' k w)) ∙ r .done (k % w) (k / w) (omega arith) (omega (arith, column-in w h b)) (row-number-in w h b)
+      at k b l =
+          sym (ap (λ (n : ℕ). getD ys n 0) (div-add-mod' k w))
+          ∙ r .done (k % w) (k / w) (omega arith) (omega (arith, column-in w h b)) (row-number-in w h b)
 
       past : (k : ℕ) → w * h ≤ k → getD ys k 0 ≡ getD xs k 0
       past k l = r .same k (λ z b t u v o. omega (arith, pixel-in {w = w} {h = h} {x = z} {y = b} (omega (arith, r .inside)) v))
@@ -101,22 +109,39 @@ module _ (w : ℕ) (g : ℕ → ℕ → ℕ) (xs : List ℕ) where
 
 module _ (img : List ℕ) (w : ℕ) (xs : List ℕ) {a e y : ℕ} (r : Strip w (tableAt down (pixel img w) w) xs xs a e y) (l : a ≤ e) where
   -- what comes back from `begin`, and from `carry`
-  pub strip-begun : {zs : List ℕ} → y * w + w ≤ length xs → y ≡ 0 → zs ≡ span (y * w + a) (y * w + e - (y * w + a)) (λ i. getD img i 0) xs
+  pub strip-begun : {zs : List ℕ} → y * w + w ≤ length xs → y ≡ 0
+      → zs ≡ span (y * w + a) (y * w + e - (y * w + a)) (λ i. getD img i 0) xs
       → Strip w (tableAt down (pixel img w) w) xs zs a e (y + 1)
   strip-begun room b z = strip-more w _ xs _ r room l z (λ x u v. table-first (pixel img w) w down x y (omega (arith, r .inside)) b)
 
-  pub strip-carried : {zs : List ℕ} → y * w + w ≤ length xs → 0 < y → zs ≡ span (y * w + a) (y * w + e - (y * w + a)) (λ i. getD xs (i - w) 0 + getD img i 0) xs
+  pub strip-carried : {zs : List ℕ} → y * w + w ≤ length xs → 0 < y
+      → zs ≡ span (y * w + a) (y * w + e - (y * w + a)) (λ i. getD xs (i - w) 0 + getD img i 0) xs
       → Strip w (tableAt down (pixel img w) w) xs zs a e (y + 1)
   strip-carried room b z =
       strip-more w _ xs _ r room l z (λ x u v.
       let o = place down w x y (omega (arith, r .inside)) (b, omega arith) in
-      ap (λ (k : ℕ). k + pixel img w x y) (ap (λ (k : ℕ). getD xs k 0) (o .0) ∙ r .done x (y - 1) u v (omega arith)) ∙ table-on (pixel img w) w down x y b)
+      ap (λ (k : ℕ). k + pixel img w x y) (ap (λ (k : ℕ). getD xs k 0) (o .0) ∙ r .done x (y - 1) u v (omega arith))
+      ∙ table-on (pixel img w) w down x y b)
 
   -- the entries that row y goes on from fit
-  pub strip-fits : ((k : ℕ) → getD img k 0 < 256) → w ≤ 8192 → y < 8192 → 0 < y → (k : ℕ) → y * w + a ≤ k + w → k + w < y * w + e → getD xs k 0 ≤ 255 * 8192
-  strip-fits small u v o k m n =
-      let x = k - (y - 1) * w in
-      let p : k ≡ (y - 1) * w + x = omega (arith, row-above w o) in
-      let q : (a ≤ x) × (x < e) × (x < w) × (y - 1 < 8192) = omega (arith, row-above w o, r .inside) in
-      let c : getD xs k 0 ≡ tableAt down (pixel img w) w x (y - 1) = ap (λ (k : ℕ). getD xs k 0) p ∙ r .done x (y - 1) (q .0) (q .1) (omega arith) in
-      rw c (table-most (pixel img w) w down 255 8192 x (y - 1) (pixel-most img w small) (q .2) u (q .3))
+  pub strip-carries : ((k : ℕ) → getD img k 0 < 256) → w ≤ 8192 → y < 8192 → y * w + w ≤ length img → y * w + w ≤ length xs → 0 < y
+      → Carries img xs (y * w + a) (y * w + e) w
+  strip-carries small u v i j o =
+      let s = row-above w o in
+      record {
+        run = omega arith;
+        least = omega arith;
+        apart = omega (arith, r .inside);
+        image = omega (arith, r .inside);
+        room = omega (arith, r .inside);
+        small = fits;
+      }
+    where
+      fits : (k : ℕ) → y * w + a ≤ k + w → k + w < y * w + e → getD xs k 0 ≤ 255 * 8192
+      fits k m n =
+          let x = k - (y - 1) * w in
+          let p : k ≡ (y - 1) * w + x = omega (arith, row-above w o) in
+          let q : (a ≤ x) × (x < e) × (x < w) × (y - 1 < 8192) = omega (arith, row-above w o, r .inside) in
+          let c : getD xs k 0 ≡ tableAt down (pixel img w) w x (y - 1) =
+          ap (λ (k : ℕ). getD xs k 0) p ∙ r .done x (y - 1) (q .0) (q .1) (omega arith) in
+          rw c (table-most (pixel img w) w down 255 8192 x (y - 1) (pixel-most img w small) (q .2) u (q .3))

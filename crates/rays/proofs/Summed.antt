@@ -13,7 +13,7 @@ use Rattle.grid.specs.Fill.{filled}
 use Rattle.grid.specs.Plane.{plane}
 use Rattle.grid.proofs.Plane.{plane-ext}
 use Rattle.grid.specs.Ways.{Way, along, down, fall, rise, runSum, Reach}
-use Rattle.grid.proofs.Ways.{prevx, prevy, run-first, run-on, run-at, run-most}
+use Rattle.grid.proofs.Ways.{prevx, prevy, run-first, run-on, run-at, run-most, run-ext}
 use Rattle.rays.specs.Tables.{tableAt, tableOf}
 
 -- the pixel before x and y on its line
@@ -73,14 +73,16 @@ module _ (f : ℕ → ℕ → ℕ) (w : ℕ) where
   sum-first : (d : Way) (x y : ℕ) → x < w → Begins d w x y → f x y ≡ runSum d f w x y
   sum-first d x y l b = run-first d f w x y l (at d b .0) (at d b .1)
     where
-      at : (d : Way) → Begins d w x y → Reach d w (prevx d x) (prevy d y) × (min (min (prevx d x) (prevy d y)) (w + 1 - prevx d x) ≡ 0)
+      at : (d : Way) → Begins d w x y
+          → Reach d w (prevx d x) (prevy d y) × (min (min (prevx d x) (prevy d y)) (w + 1 - prevx d x) ≡ 0)
       at along b = omega arith
       at down b = omega arith
       at fall b = omega arith
       at rise b = omega arith
 
   -- k is the sum at (a, b), the pixel before
-  sum-on : (d : Way) (x y a b : ℕ) {k : ℕ} → x < w → a + 1 ≡ prevx d x → b + 1 ≡ prevy d y → k ≡ runSum d f w a b → k + f x y ≡ runSum d f w x y
+  sum-on : (d : Way) (x y a b : ℕ) {k : ℕ} → x < w → a + 1 ≡ prevx d x → b + 1 ≡ prevy d y → k ≡ runSum d f w a b
+      → k + f x y ≡ runSum d f w x y
   sum-on d x y a b l p q e = add-comm _ _ ∙ run-on d f w x y l (run-at d f w a b (prevx d x) (prevy d y) e p q)
 
   pub table-run : (d : Way) (x y : ℕ) → x < w → tableAt d f w x y ≡ runSum d f w x y
@@ -91,7 +93,8 @@ module _ (f : ℕ → ℕ → ℕ) (w : ℕ) where
   table-run down x (suc y) l = sum-on down x (suc y) x y l (omega arith) (omega arith) (table-run down x y l)
   table-run fall zero y l = sum-first fall zero y l (omega arith)
   table-run fall (suc x) zero l = sum-first fall (suc x) zero l (omega arith)
-  table-run fall (suc x) (suc y) l = sum-on fall (suc x) (suc y) x y l (omega arith) (omega arith) (table-run fall x y (omega arith))
+  table-run fall (suc x) (suc y) l =
+      sum-on fall (suc x) (suc y) x y l (omega arith) (omega arith) (table-run fall x y (omega arith))
   table-run rise x zero l = sum-first rise x zero l (omega arith)
   table-run rise x (suc y) l = at (decLt (suc x) w) (table-run rise (suc x) y)
     where
@@ -101,9 +104,16 @@ module _ (f : ℕ → ℕ → ℕ) (w : ℕ) where
       at (no m) e = rw (le-ltb (suc x) w (omega arith), zero-add) (sum-first rise x (suc y) l (omega arith))
 
   -- no entry passes the greatest pixel times the longer side
-  pub table-most : (d : Way) (top side x y : ℕ) → ((x y : ℕ) → f x y ≤ top) → x < w → w ≤ side → y < side → tableAt d f w x y ≤ top * side
+  pub table-most : (d : Way) (top side x y : ℕ) → ((x y : ℕ) → f x y ≤ top) → x < w → w ≤ side → y < side
+      → tableAt d f w x y ≤ top * side
   table-most d top side x y m l u v = rw (table-run d x y l) (run-most d f top side w (x + 1) (y + 1) m (omega arith) (omega arith))
 
   -- a whole buffer, from one to the other and, by `sym`, back
   pub table-filled : (d : Way) (h : ℕ) (old : List ℕ) → tableOf d f w h old ≡ filled (w * h) (plane w (runSum d f w)) old
   table-filled d h old = plane-ext w h _ _ old (λ x y l m. table-run d x y l)
+
+-- two images with the same pixels have the same tables
+pub table-ext : (d : Way) (f g : ℕ → ℕ → ℕ) (w h : ℕ) (old : List ℕ) → ((x y : ℕ) → x < w → y < h → f x y ≡ g x y)
+    → tableOf d f w h old ≡ tableOf d g w h old
+table-ext d f g w h old e =
+    plane-ext w h _ _ old (λ x y l m. table-run f w d x y l ∙ run-ext d f g w h x y l m e ∙ sym (table-run g w d x y l))

@@ -1,5 +1,5 @@
--- The response. "A pixel at least r from every edge has response (largest − smallest)² of the four ray sums over k from −r to r: (x+k, y), (x, y+k), (x+k, y+k), (x+k, y−k).
--- .. All other pixels are 0."
+-- The response. "A pixel at least r from every edge has response (largest − smallest)² of the four ray sums over k from −r to r:
+-- (x+k, y), (x, y+k), (x+k, y+k), (x+k, y−k). .. All other pixels are 0."
 use mathlib.Core.Bool.{Bool, cond, _&&_}
 use Prim.Native.Nat.{ℕ, _+_, _-_, min, max}
 use lib.Dec.{ltb, leb}

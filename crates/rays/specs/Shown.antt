@@ -1,6 +1,8 @@
 -- What the response's functions ask of the four tables, and what they promise by them: the tables alone show the image that they are of.
+use mathlib.Core.Bool.{cond}
 use mathlib.Core.List.{List}
 use Prim.Native.Nat.{ℕ, zero, suc, _+_, _-_, _*_, _≤_, _<_}
+use lib.Dec.{ltb, leb}
 use lib.ListN.{length, getD}
 use lib.Ieee.{Float}
 use Rattle.grid.specs.Ways.{along, down, fall, rise, Holds}
@@ -25,6 +27,17 @@ pub record Tables (w h : ℕ) (row col falling rising : List ℕ) : Type 0 where
   pub columns : Holds down (shown row w) w h col
   pub falls : Holds fall (shown row w) w h falling
   pub rises : Holds rise (shown row w) w h rising
+
+-- what a table has at column x and row y, counted from 1: 0 past the edge
+unfoldable pub entryAt : List ℕ → ℕ → ℕ → ℕ → ℕ
+entryAt t w x y = cond (ltb 0 x) (cond (ltb 0 y) (cond (leb x w) (getD t ((y - 1) * w + (x - 1)) 0) 0) 0) 0
+
+-- two entries of one line, the first of which is no greater
+pub record Between (t : List ℕ) (w x0 y0 x1 y1 : ℕ) : Type 0 where
+  pub wide : w ≤ 8192
+  pub high : (y0 ≤ 8192) × (y1 ≤ 8192)
+  pub long : (w * y0 ≤ length t) × (w * y1 ≤ length t)
+  pub least : entryAt t w x0 y0 ≤ entryAt t w x1 y1
 
 -- the response in column x of a row
 abbrev pub readAt : List ℕ → ImageRow → ℕ → Float

@@ -7,7 +7,7 @@ use Rattle.grid.specs.Fill.{filled}
 use Rattle.grid.specs.Plane.{plane}
 use Rattle.grid.specs.Ways.{Way, along, down, fall, rise}
 
--- what a table of the image f, w wide, has for the pixel x and y: nothing comes from before the first column or row, or from past the last column
+-- what a table of the image f, w wide, has for the pixel x and y: nothing comes from before the first column or row, or past the last column
 unfoldable pub tableAt : Way → (ℕ → ℕ → ℕ) → ℕ → ℕ → ℕ → ℕ
 tableAt along f w zero y = f zero y
 tableAt along f w (suc x) y = tableAt along f w x y + f (suc x) y

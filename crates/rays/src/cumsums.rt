@@ -1,12 +1,12 @@
-// The four tables: running sums of an image along its rows, its columns, and its falling and rising diagonals, a row at a time from the one above.
+// The four tables: running sums of an image along its rows, columns, falling and rising diagonals. A row goes on from the one above.
 use sizes::lesser;
 ghost use mathlib.Core.Path.{_≡_};
-ghost use Prim.Native.Nat.{ℕ, _+_, _-_, _*_, _<_, _≤_};
+ghost use Prim.Native.Nat.{_+_, _-_, _*_, _<_, _≤_};
 ghost use lib.ListN.{length, getD};
 ghost use Rattle.grid.specs.Span.{span};
 ghost use Rattle.grid.specs.Ways.{pixel, along, down, fall, rise};
 ghost use Rattle.rays.specs.Tables.{tableAt, tableOf};
-ghost use Rattle.rays.specs.Passes.{Above, Strip};
+ghost use Rattle.rays.specs.Passes.{Above, Carries, Strip, wayOf};
 
 // Entries a to e - 1, where lines begin.
 fn begin(img: &[u8], a: usize, e: usize, out: &mut [u32])
@@ -18,10 +18,11 @@ fn begin(img: &[u8], a: usize, e: usize, out: &mut [u32])
     }
 }
 
-// Entries a to e - 1, whose lines go on from the entry that is `back` before, in the row above: no branch, and no entry leans on another of the run.
+// Entries a to e - 1, whose lines go on from the entry that is `back` before: no branch, and no entry leans on another of the run.
 fn carry(img: &[u8], a: usize, e: usize, back: usize, out: &mut [u32])
-    requires { ⌜ (a ≤ e) × (back ≤ a) × (e ≤ a + back) × (e ≤ length (now img)) × (e ≤ length (now out)) × ((k : ℕ) → a ≤ k + back → k + back < e → getD (now out) k 0 ≤ 255 * 8192) ⌝ }
-    ensures { λ _. ⌜ now (out .exit) ≡ span a (e - a) (λ i. getD (now (out .entry)) (i - back) 0 + getD (now (img .entry)) i 0) (now (out .entry)) ⌝ }
+    requires { ⌜ Carries (now img) (now out) a e back ⌝ }
+    ensures { λ _. ⌜ now (out .exit)
+        ≡ span a (e - a) (λ i. getD (now (out .entry)) (i - back) 0 + getD (now (img .entry)) i 0) (now (out .entry)) ⌝ }
 {
     for i in a..e {
         out[i] = out[i - back] + img[i] as u32;
@@ -52,7 +53,10 @@ pub fn sat_row(img: &[u8], w: usize, h: usize, out: &mut [u32])
 
 // Row y of the columns a to e - 1, from the row above.
 fn down_row(img: &[u8], w: usize, y: usize, a: usize, e: usize, out: &mut [u32])
-    requires { ⌜ (w ≤ 8192) × (y < 8192) × (a ≤ e) × (y * w + w ≤ length (now img)) × (y * w + w ≤ length (now out)) × Strip w (tableAt down (pixel (now img) w) w) (now out) (now out) a e y ⌝ }
+    requires { ⌜
+        (w ≤ 8192) × (y < 8192) × (a ≤ e) × (y * w + w ≤ length (now img)) × (y * w + w ≤ length (now out))
+        × Strip w (tableAt down (pixel (now img) w) w) (now out) (now out) a e y
+        ⌝ }
     ensures { λ _. ⌜ Strip w (tableAt down (pixel (now (img .entry)) w) w) (now (out .entry)) (now (out .exit)) a e (y + 1) ⌝ }
 {
     let row = y * w;
@@ -85,10 +89,16 @@ pub fn sat_col(img: &[u8], w: usize, h: usize, out: &mut [u32])
     }
 }
 
-// Row y of the diagonals that fall to the right, from (x - 1, y - 1): the first row and column begin one.
-fn fall_row(img: &[u8], w: usize, y: usize, out: &mut [u32])
-    requires { ⌜ (0 < w) × Above fall (now img) w y (now out) ⌝ }
-    ensures { λ _. ⌜ now (out .exit) ≡ tableOf fall (pixel (now (img .entry)) w) w (y + 1) (now (out .entry)) ⌝ }
+// The diagonals that fall to the right, from (x - 1, y - 1), and those that rise, from (x + 1, y - 1).
+pub enum Diagonal {
+    Falling,
+    Rising,
+}
+
+// The first row begins one in each column, another in the first column or the last.
+fn diagonal_row(img: &[u8], w: usize, y: usize, d: Diagonal, out: &mut [u32])
+    requires { ⌜ (0 < w) × Above (wayOf d) (now img) w y (now out) ⌝ }
+    ensures { λ _. ⌜ now (out .exit) ≡ tableOf (wayOf d) (pixel (now (img .entry)) w) w (y + 1) (now (out .entry)) ⌝ }
 {
     let row = y * w;
     let end = row + w;
@@ -96,47 +106,42 @@ fn fall_row(img: &[u8], w: usize, y: usize, out: &mut [u32])
         begin(img, row, end, out);
         return;
     }
-    begin(img, row, row + 1, out);
-    carry(img, row + 1, end, w + 1, out);
+    match d {
+        Diagonal::Falling => {
+            begin(img, row, row + 1, out);
+            carry(img, row + 1, end, w + 1, out);
+        }
+        Diagonal::Rising => {
+            carry(img, row, end - 1, w - 1, out);
+            begin(img, end - 1, end, out);
+        }
+    }
+}
+
+fn sat_diag(img: &[u8], w: usize, h: usize, d: Diagonal, out: &mut [u32])
+    requires { ⌜ (w ≤ 8192) × (h ≤ 8192) × (w * h ≤ length (now img)) × (w * h ≤ length (now out)) ⌝ }
+    ensures { λ _. ⌜ now (out .exit) ≡ tableOf (wayOf d) (pixel (now (img .entry)) w) w h (now (out .entry)) ⌝ }
+{
+    if w == 0 {
+        return;
+    }
+    for y in 0..h {
+        diagonal_row(img, w, y, d, out);
+    }
 }
 
 pub fn sat_diag_pos(img: &[u8], w: usize, h: usize, out: &mut [u32])
     requires { ⌜ (w ≤ 8192) × (h ≤ 8192) × (w * h ≤ length (now img)) × (w * h ≤ length (now out)) ⌝ }
     ensures { λ _. ⌜ now (out .exit) ≡ tableOf fall (pixel (now (img .entry)) w) w h (now (out .entry)) ⌝ }
 {
-    if w == 0 {
-        return;
-    }
-    for y in 0..h {
-        fall_row(img, w, y, out);
-    }
-}
-
-// Row y of the diagonals that rise to the right, from (x + 1, y - 1): the first row and the last column begin one.
-fn rise_row(img: &[u8], w: usize, y: usize, out: &mut [u32])
-    requires { ⌜ (0 < w) × Above rise (now img) w y (now out) ⌝ }
-    ensures { λ _. ⌜ now (out .exit) ≡ tableOf rise (pixel (now (img .entry)) w) w (y + 1) (now (out .entry)) ⌝ }
-{
-    let row = y * w;
-    let end = row + w;
-    if y == 0 {
-        begin(img, row, end, out);
-        return;
-    }
-    carry(img, row, end - 1, w - 1, out);
-    begin(img, end - 1, end, out);
+    sat_diag(img, w, h, Diagonal::Falling, out);
 }
 
 pub fn sat_diag_neg(img: &[u8], w: usize, h: usize, out: &mut [u32])
     requires { ⌜ (w ≤ 8192) × (h ≤ 8192) × (w * h ≤ length (now img)) × (w * h ≤ length (now out)) ⌝ }
     ensures { λ _. ⌜ now (out .exit) ≡ tableOf rise (pixel (now (img .entry)) w) w h (now (out .entry)) ⌝ }
 {
-    if w == 0 {
-        return;
-    }
-    for y in 0..h {
-        rise_row(img, w, y, out);
-    }
+    sat_diag(img, w, h, Diagonal::Rising, out);
 }
 
 pub fn build_cumsums(
@@ -148,7 +153,10 @@ pub fn build_cumsums(
     falling: &mut [u32],
     rising: &mut [u32],
 )
-    requires { ⌜ (w ≤ 8192) × (h ≤ 8192) × (w * h ≤ length (now img)) × (w * h ≤ length (now row)) × (w * h ≤ length (now col)) × (w * h ≤ length (now falling)) × (w * h ≤ length (now rising)) ⌝ }
+    requires { ⌜
+        (w ≤ 8192) × (h ≤ 8192) × (w * h ≤ length (now img)) × (w * h ≤ length (now row))
+        × (w * h ≤ length (now col)) × (w * h ≤ length (now falling)) × (w * h ≤ length (now rising))
+        ⌝ }
     ensures { λ _. ⌜
         (now (row .exit) ≡ tableOf along (pixel (now (img .entry)) w) w h (now (row .entry)))
         × (now (col .exit) ≡ tableOf down (pixel (now (img .entry)) w) w h (now (col .entry)))

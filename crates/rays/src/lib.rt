@@ -7,9 +7,9 @@ ghost use mathlib.Core.Bool.{cond};
 ghost use lib.ListN.{length};
 ghost use Rattle.grid.specs.Ways.{pixel};
 ghost use Rattle.rays.specs.Lent.{tabled, raysOf, raysFit};
+use rays::Size;
 use sizes::fits;
 use sizes::lesser;
-use rays::Size;
 
 // The greatest ray radius.
 const MAX_RAY_RADIUS: usize = 7;
@@ -26,15 +26,23 @@ pub fn ray_response(
     rising: &mut [u32],
     response: &mut [f32],
 )
-    ensures { λ _. ⌜ tabled (now (row .exit)) (now (col .exit)) (now (falling .exit)) (now (rising .exit)) (now (response .exit))
-        ≡ cond (raysFit w h r (length (now (img .entry))) (tabled (now (row .entry)) (now (col .entry)) (now (falling .entry)) (now (rising .entry)) (now (response .entry))))
-        (raysOf (pixel (now (img .entry)) w) w h r (tabled (now (row .entry)) (now (col .entry)) (now (falling .entry)) (now (rising .entry)) (now (response .entry))))
-        (tabled (now (row .entry)) (now (col .entry)) (now (falling .entry)) (now (rising .entry)) (now (response .entry))) ⌝ }
+    ensures { λ _. ⌜
+        tabled (now (row .exit)) (now (col .exit)) (now (falling .exit)) (now (rising .exit)) (now (response .exit))
+        ≡ cond
+        (raysFit w h r (length (now (img .entry)))
+        (tabled (now (row .entry)) (now (col .entry)) (now (falling .entry)) (now (rising .entry)) (now (response .entry))))
+        (raysOf (pixel (now (img .entry)) w) w h r
+        (tabled (now (row .entry)) (now (col .entry)) (now (falling .entry)) (now (rising .entry)) (now (response .entry))))
+        (tabled (now (row .entry)) (now (col .entry)) (now (falling .entry)) (now (rising .entry)) (now (response .entry)))
+        ⌝ }
 {
     if MAX_RAY_RADIUS < r {
         return;
     }
-    let tables = lesser(lesser(row.len(), col.len()), lesser(falling.len(), rising.len()));
+    let tables = lesser(
+        lesser(row.len(), col.len()),
+        lesser(falling.len(), rising.len()),
+    );
     let room = lesser(lesser(img.len(), response.len()), tables);
     if fits(w, h, room) {
         cumsums::build_cumsums(img, w, h, row, col, falling, rising);

@@ -1,14 +1,14 @@
 // The response at each pixel, from the four tables: a ray's sum is one entry less another.
 ghost use mathlib.Core.Path.{_≡_};
-ghost use Prim.Native.Nat.{ℕ, _+_, _-_, _*_, _<_, _≤_, min, max};
+ghost use Prim.Native.Nat.{_+_, _-_, _*_, _<_, _≤_, min, max};
 ghost use lib.ListN.{length, getD};
 ghost use Rattle.grid.specs.Fill.{filled};
 ghost use Rattle.grid.specs.Plane.{plane};
-ghost use Rattle.grid.specs.Ways.{Entry, Inside, Deep};
+ghost use Rattle.grid.specs.Ways.{Inside, Deep};
 ghost use Rattle.rays.specs.Response.{spread, square, responseAt};
-ghost use Rattle.rays.specs.Shown.{shown, Tables, readAt, Readable};
+ghost use Rattle.rays.specs.Shown.{shown, Tables, entryAt, Between, readAt, Readable};
 
-// The sides of an image, and the radius of the rays in it.
+// The sides of an image, and the radius of its rays.
 pub struct Size {
     pub w: usize,
     pub h: usize,
@@ -53,7 +53,7 @@ fn squared_spread(a: u32, b: u32, c: u32, d: u32) -> f32
 // What a table has at column x and row y, counted from 1: 0 past the edge.
 fn entry(t: &[u32], w: usize, x: usize, y: usize) -> u32
     requires { ⌜ (w ≤ 8192) × (y ≤ 8192) × (w * y ≤ length (now t)) ⌝ }
-    ensures { λ v. ⌜ ((h : ℕ) → y ≤ h → Entry (now (t .entry)) w h x y v) ⌝ }
+    ensures { λ v. ⌜ v ≡ entryAt (now (t .entry)) w x y ⌝ }
 {
     if x == 0 {
         return 0;
@@ -65,6 +65,14 @@ fn entry(t: &[u32], w: usize, x: usize, y: usize) -> u32
         return 0;
     }
     t[(y - 1) * w + (x - 1)]
+}
+
+// What a line adds up to after its entry at x0 and y0, up to that at x1 and y1.
+fn between(t: &[u32], w: usize, x0: usize, y0: usize, x1: usize, y1: usize) -> u32
+    requires { ⌜ Between (now t) w x0 y0 x1 y1 ⌝ }
+    ensures { λ v. ⌜ v ≡ entryAt (now (t .entry)) w x1 y1 - entryAt (now (t .entry)) w x0 y0 ⌝ }
+{
+    entry(t, w, x1, y1) - entry(t, w, x0, y0)
 }
 
 // The response at least r from every edge.
@@ -86,10 +94,10 @@ fn radon_response_at(
     let y0 = y - r;
     let x1 = x + r + 1;
     let y1 = y + r + 1;
-    let s_h = entry(row, w, x1, y + 1) - entry(row, w, x0, y + 1);
-    let s_v = entry(col, w, x + 1, y1) - entry(col, w, x + 1, y0);
-    let s_d1 = entry(falling, w, x1, y1) - entry(falling, w, x0, y0);
-    let s_d2 = entry(rising, w, x0 + 1, y1) - entry(rising, w, x1 + 1, y0);
+    let s_h = between(row, w, x0, y + 1, x1, y + 1);
+    let s_v = between(col, w, x + 1, y0, x + 1, y1);
+    let s_d1 = between(falling, w, x0, y0, x1, y1);
+    let s_d2 = between(rising, w, x1 + 1, y0, x0 + 1, y1);
     squared_spread(s_h, s_v, s_d1, s_d2)
 }
 
@@ -122,7 +130,7 @@ fn response_or_zero(
     radon_response_at(row, col, falling, rising, at, x)
 }
 
-// The part of a row that starts at column a, as far as `out` goes, wherever it is.
+// A row from column a on, as far as `out` goes, by the tests of each pixel.
 fn edge_part(
     row: &[u32],
     col: &[u32],
@@ -173,7 +181,7 @@ fn deep_response(
     squared_spread(s_h, s_v, s_d1, s_d2)
 }
 
-// The same of columns that are more than r from the left edge and from the right one.
+// The same without a test, where the columns are more than r from the left edge and from the right one.
 fn deep_part(
     row: &[u32],
     col: &[u32],
@@ -183,7 +191,10 @@ fn deep_part(
     a: usize,
     out: &mut [f32],
 )
-    requires { ⌜ (at .r < at .y) × (at .y + at .r < at .h) × (at .r < a) × (a + length (now out) + at .r < at .w) × Readable at (now row) (now col) (now falling) (now rising) ⌝ }
+    requires { ⌜
+        (at .r < at .y) × (at .y + at .r < at .h) × (at .r < a) × (a + length (now out) + at .r < at .w)
+        × Readable at (now row) (now col) (now falling) (now rising)
+        ⌝ }
     ensures { λ _. ⌜ now (out .exit) ≡ filled (length (now (out .entry))) (λ i. readAt (now (row .entry)) at (a + i)) (now (out .entry)) ⌝ }
 {
     let n = out.len();
@@ -201,7 +212,10 @@ fn deep_row(
     at: ImageRow,
     out: &mut [f32],
 )
-    requires { ⌜ (at .r < at .y) × (at .y + at .r < at .h) × (2 * at .r + 2 ≤ at .w) × (length (now out) ≡ at .w) × Readable at (now row) (now col) (now falling) (now rising) ⌝ }
+    requires { ⌜
+        (at .r < at .y) × (at .y + at .r < at .h) × (2 * at .r + 2 ≤ at .w) × (length (now out) ≡ at .w)
+        × Readable at (now row) (now col) (now falling) (now rising)
+        ⌝ }
     ensures { λ _. ⌜ now (out .exit) ≡ filled (at .w) (readAt (now (row .entry)) at) (now (out .entry)) ⌝ }
 {
     let r = at.r;
@@ -213,6 +227,7 @@ fn deep_row(
     edge_part(row, col, falling, rising, at, last, &mut out[last..end]);
 }
 
+// Row y: by the tests of each pixel where it is near the top or the bottom, or the image narrow.
 fn compute_response_row(
     row: &[u32],
     col: &[u32],
@@ -246,8 +261,13 @@ pub fn compute_response(
     size: Size,
     out: &mut [f32],
 )
-    requires { ⌜ (size .r ≤ 7) × (size .w * size .h ≤ length (now out)) × Tables (size .w) (size .h) (now row) (now col) (now falling) (now rising) ⌝ }
-    ensures { λ _. ⌜ now (out .exit) ≡ filled (size .w * size .h) (plane (size .w) (responseAt (shown (now (row .entry)) (size .w)) (size .w) (size .h) (size .r))) (now (out .entry)) ⌝ }
+    requires { ⌜
+        (size .r ≤ 7) × (size .w * size .h ≤ length (now out))
+        × Tables (size .w) (size .h) (now row) (now col) (now falling) (now rising)
+        ⌝ }
+    ensures { λ _. ⌜ now (out .exit)
+        ≡ filled (size .w * size .h)
+        (plane (size .w) (responseAt (shown (now (row .entry)) (size .w)) (size .w) (size .h) (size .r))) (now (out .entry)) ⌝ }
 {
     let w = size.w;
     let h = size.h;

@@ -14,11 +14,6 @@ use Rattle.params.specs.Refusals.{mapRefusalOf}
 use Rattle.response.specs.declared.Mapped.{Mapped}
 use Rattle.response.specs.Map.{Buffers, roomOf, mappedBy, mapped, mappedOf, mapBuffersOf, answered}
 
--- the shortest buffer, as the code finds it
-pub room-by : (b : Buffers) {one two tables floats rest room : ℕ} → one ≡ min (length (b .row)) (length (b .col)) → two ≡ min (length (b .pos)) (length (b .neg)) → tables ≡ min one two
-    → floats ≡ min (length (b .response)) (length (b .scratch)) → rest ≡ min tables floats → room ≡ min (length (b .working)) rest → room ≡ roomOf b
-room-by b e1 e2 e3 e4 e5 e6 = rw (e6, e5, e4, e3, e2, e1)
-
 module _ (img : List ℕ) (w h : ℕ) (p : RadonDetectorParams) (b : Buffers) {room : ℕ} (r : room ≡ roomOf b) {a : Answer} (e : a ≡ mapRefusalOf w h (length img) p room) {n : ℕ} (k : n ≡ numberOf a) where
   is-answered : a ≡ answered img w h p b
   is-answered = e ∙ ap (mapRefusalOf w h (length img) p) r

@@ -51,7 +51,8 @@ begun c = start (at-radius c .before)
 room : (c : tie.After-fits2) → c .before .lesser5 .result ≡ roomOf (length (begun c .args .img .now)) (lent (begun c))
 room c =
     let t = c .before .before .before in
-    room-by (length (begun c .args .img .now)) (lent (begun c)) (t .before .before .lesser .ensures) (t .before .lesser2 .ensures) (t .lesser3 .ensures)
+    room-by (length (begun c .args .img .now)) (lent (begun c)) (t .before .before .lesser .ensures)
+    (t .before .lesser2 .ensures) (t .lesser3 .ensures)
     (c .before .before .lesser4 .ensures) (c .before .lesser5 .ensures)
 
 fit : (c : tie.Then2)
@@ -60,10 +61,16 @@ fit : (c : tie.Then2)
 fit c =
     let f = c .before in
     let s = begun f in
-    when-so (image s) (s .args .w) (s .args .h) (s .args .r) (length (s .args .img .now)) (lent s) (room f) (f .fits2 .ensures) (at-radius f .if1 .left) (c .if2 .taken)
+    when-so (image s) (s .args .w) (s .args .h) (s .args .r) (length (s .args .img .now)) (lent s) (room f)
+    (f .fits2 .ensures) (at-radius f .if1 .left) (c .if2 .taken)
 
 small : (c : tie.After-slice-known5) (x y : ℕ) → image (start c) x y ≤ 4095
-small c x y = omega (arith, pixel-most (start c .args .img .now) (start c .args .w) (λ k. omega (arith, image-known c .shared-slice-known .given k)) x y)
+small c x y =
+    omega (
+      arith,
+      pixel-most (start c .args .img .now) (start c .args .w)
+          (λ k. omega (arith, image-known c .shared-slice-known .given k)) x y,
+    )
 
 returns : tie.Need-returns
 returns c =
@@ -98,10 +105,13 @@ compute-response-requires c κs =
     let b = at-built c in
     let t = at-fits b in
     let m = fit t in
-    let e = b .build-cumsums .ensures in
-    (m .short, m .response-room,
-      tables-of (record { room = m .row-room; is = e .0 }) (record { room = m .col-room; is = e .1 }) (record { room = m .falling-room; is = e .2 })
-      (record { room = m .rising-room; is = e .3 }) (m .wide) (m .high) (small (at-radius (t .before) .before)))
+    let e = b .build-cumsums .ensures in (
+      m .short,
+      m .response-room,
+      tables-of (record { room = m .row-room; is = e .0 }) (record { room = m .col-room; is = e .1 })
+          (record { room = m .falling-room; is = e .2 })
+          (record { room = m .rising-room; is = e .3 }) (m .wide) (m .high) (small (at-radius (t .before) .before)),
+    )
 
 same-length : tie.Need-same-length
 same-length c = search needs
@@ -125,16 +135,19 @@ returns-2 c =
     let t = at-fits b in
     let s = begun (t .before) in
     let e = b .build-cumsums .ensures in
-    when-done (image s) (s .args .w) (s .args .h) (s .args .r) (length (s .args .img .now)) (lent s) (fit t) (e .0) (e .1) (e .2) (e .3) (r .compute-response .ensures)
+    when-done (image s) (s .args .w) (s .args .h) (s .args .r) (length (s .args .img .now)) (lent s) (fit t) (e .0) (e .1)
+    (e .2) (e .3) (r .compute-response .ensures)
 
 returns-3 : tie.Need-returns-3
 returns-3 c =
     let f = c .before in
     let s = begun f in
-    when-not (image s) (s .args .w) (s .args .h) (s .args .r) (length (s .args .img .now)) (lent s) (room f) (f .fits2 .ensures) (at-radius f .if1 .left) (c .if2 .left)
+    when-not (image s) (s .args .w) (s .args .h) (s .args .r) (length (s .args .img .now)) (lent s) (room f)
+    (f .fits2 .ensures) (at-radius f .if1 .left) (c .if2 .left)
 
 pub ray-response-spec : {M : Type 1} → statement M
 ray-response-spec =
     tie.close
     (tie.spec returns lesser-requires lesser-requires-2 lesser-requires-3 lesser-requires-4 lesser-requires-5 fits-requires
-    build-cumsums-requires compute-response-requires same-length same-length-2 same-length-3 same-length-4 same-length-5 returns-2 returns-3)
+    build-cumsums-requires compute-response-requires same-length same-length-2 same-length-3 same-length-4 same-length-5
+    returns-2 returns-3)

@@ -36,7 +36,11 @@ cast-acc c = omega (arith, c .shared-slice-known .given (turn c .before .args .y
 add-acc-2 : tie.Need-add-acc-2 Inv-loop μ-loop
 add-acc-2 c =
     let s = turn c .before in
-    omega (arith, carried-fits _ _ _ (turn c .loop .inv .1) (λ k. omega (arith, c .shared-slice-known .given k)) (c .before .loop-test .taken) (s .pre .wide) (s .pre .high))
+    omega (
+      arith,
+      carried-fits _ _ _ (turn c .loop .inv .1) (λ k. omega (arith, c .shared-slice-known .given k))
+          (c .before .loop-test .taken) (s .pre .wide) (s .pre .high),
+    )
 
 add-out : tie.Need-add-out Inv-loop μ-loop
 add-out c = omega arith
@@ -59,7 +63,7 @@ loop-again c =
     (row-more _ _ _ _ (l .inv .0) (c .before .loop-test .taken) (l .inv .1 .is), carried-more _ _ _ (l .inv .1))
 
 same-length : tie.Need-same-length Inv-loop μ-loop
-same-length c = c .before .loop .inv .0 .long
+same-length c = c .before .loop .inv .0 .steps .long
 
 returns : tie.Need-returns Inv-loop μ-loop
 returns c =

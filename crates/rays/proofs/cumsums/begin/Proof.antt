@@ -46,4 +46,5 @@ returns c = spanning-all _ _ _ _ (c .before .loop .inv) (c .loop-test .left)
 pub begin-spec : {M : Type 1} → statement M
 begin-spec =
     tie.close
-    (tie.spec Inv-loop μ-loop loop-holds shared-slice-read-out cast-out mul-out slice-write-out add-i loop-less loop-again same-length returns)
+    (tie.spec Inv-loop μ-loop loop-holds shared-slice-read-out cast-out mul-out slice-write-out add-i loop-less loop-again
+    same-length returns)

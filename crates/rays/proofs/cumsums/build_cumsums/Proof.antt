@@ -48,4 +48,5 @@ returns c =
 pub build-cumsums-spec : {M : Type 1} → statement M
 build-cumsums-spec =
     tie.close
-    (tie.spec sat-row-requires sat-col-requires sat-diag-pos-requires sat-diag-neg-requires same-length same-length-2 same-length-3 same-length-4 returns)
+    (tie.spec sat-row-requires sat-col-requires sat-diag-pos-requires sat-diag-neg-requires same-length same-length-2
+    same-length-3 same-length-4 returns)

@@ -18,11 +18,12 @@ turn c = c .before .before
 
 -- the entry that a turn goes on from is as it was
 kept : (t : tie.In-loop Inv-loop μ-loop)
-    → getD (t .before .loop .out) (t .before .loop .i - t .before .before .args .back) 0 ≡ getD (t .before .before .args .out .now) (t .before .loop .i - t .before .before .args .back) 0
+    → getD (t .before .loop .out) (t .before .loop .i - t .before .before .args .back) 0
+    ≡ getD (t .before .before .args .out .now) (t .before .loop .i - t .before .before .args .back) 0
 kept t = spanning-before _ _ _ _ (t .before .loop .inv) _ 0 (omega arith)
 
 loop-holds : tie.Need-loop-holds Inv-loop μ-loop
-loop-holds c = spanning-none _ _ _ _ (c .pre .0)
+loop-holds c = spanning-none _ _ _ _ (c .pre .run)
 
 sub-out : tie.Need-sub-out Inv-loop μ-loop
 sub-out c = omega arith
@@ -43,7 +44,8 @@ add-out : tie.Need-add-out Inv-loop μ-loop
 add-out c =
     let t = turn c in
     let k = t .before .loop .i - t .before .before .args .back in
-    omega (arith, kept t, t .before .before .pre .5 k (omega arith) (omega arith), c .shared-slice-known .given (t .before .loop .i))
+    let m = t .before .before .pre .small k (omega arith) (omega arith) in
+    omega (arith, kept t, m, c .shared-slice-known .given (t .before .loop .i))
 
 mul-out-2 : tie.Need-mul-out-2 Inv-loop μ-loop
 mul-out-2 c = omega arith
@@ -60,7 +62,8 @@ loop-less c = omega arith
 loop-again : tie.Need-loop-again Inv-loop μ-loop
 loop-again c =
     let t = turn c in
-    spanning-more _ _ _ _ (t .before .loop .inv) (t .loop-test .taken) (ap (λ (n : ℕ). n + getD (t .before .before .args .img .now) (t .before .loop .i) 0) (kept t))
+    spanning-more _ _ _ _ (t .before .loop .inv) (t .loop-test .taken)
+    (ap (λ (n : ℕ). n + getD (t .before .before .args .img .now) (t .before .loop .i) 0) (kept t))
 
 same-length : tie.Need-same-length Inv-loop μ-loop
 same-length c = c .before .loop .inv .long
@@ -71,5 +74,6 @@ returns c = spanning-all _ _ _ _ (c .before .loop .inv) (c .loop-test .left)
 pub carry-spec : {M : Type 1} → statement M
 carry-spec =
     tie.close
-    (tie.spec Inv-loop μ-loop loop-holds sub-out mul-out slice-read-out shared-slice-read-out cast-out add-out mul-out-2 slice-write-out
+    (tie.spec Inv-loop μ-loop loop-holds sub-out mul-out slice-read-out shared-slice-read-out cast-out add-out mul-out-2
+    slice-write-out
     add-i loop-less loop-again same-length returns)

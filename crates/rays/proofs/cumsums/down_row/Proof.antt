@@ -1,8 +1,7 @@
 -- `down_row`: the first row begins each column, and another carries it on. Assumes nothing.
 use native.Mathlib.Omega.{arith}
 use borrow.Author.Needs.{needs}
-use Rattle.grid.proofs.Plane.{row-above}
-use Rattle.rays.proofs.Strips.{strip-begun, strip-carried, strip-fits}
+use Rattle.rays.proofs.Strips.{strip-begun, strip-carried, strip-carries}
 use Rattle.rays.proofs.cumsums.down_row.Statement.{statement}
 use Rattle.rays.proofs.cumsums.down_row.Tie as tie
 
@@ -46,9 +45,9 @@ carry-requires : tie.Need-carry-requires
 carry-requires c κs =
     let i = c .before .before in
     let s = start i in
-    let u = row-above (s .args .w) {y = s .args .y} (omega arith) in
-    (omega arith, omega arith, omega arith, omega arith, omega arith,
-      strip-fits (s .args .img .now) _ _ (s .pre .5) (s .pre .2) (λ k. omega (arith, i .before .shared-slice-known .given k)) (s .pre .0) (s .pre .1) (omega arith))
+    let p = s .pre in
+    strip-carries (s .args .img .now) _ _ (p .5) (p .2) (λ k. omega (arith, i .before .shared-slice-known .given k)) (p .0)
+    (p .1) (p .3) (p .4) (omega arith)
 
 same-length-2 : tie.Need-same-length-2
 same-length-2 c = search needs
@@ -61,4 +60,5 @@ returns-2 c =
 pub down-row-spec : {M : Type 1} → statement M
 down-row-spec =
     tie.close
-    (tie.spec mul-row add-begin add-begin-2 begin-requires same-length returns add-carry add-carry-2 carry-requires same-length-2 returns-2)
+    (tie.spec mul-row add-begin add-begin-2 begin-requires same-length returns add-carry add-carry-2 carry-requires
+    same-length-2 returns-2)

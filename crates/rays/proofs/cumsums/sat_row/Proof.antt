@@ -38,7 +38,8 @@ loop-less c = omega arith
 loop-again : tie.Need-loop-again Inv-loop μ-loop
 loop-again c =
     let t = turn c in
-    rows-next along (start (t .before) .args .img .now) _ _ _ (t .before .loop .inv) (t .loop-test .taken) (c .before .before .along-row .ensures)
+    rows-next along (start (t .before) .args .img .now) _ _ _ (t .before .loop .inv) (t .loop-test .taken)
+    (c .before .before .along-row .ensures)
 
 same-length : tie.Need-same-length Inv-loop μ-loop
 same-length c = c .before .loop .inv .long

@@ -24,7 +24,8 @@ abbrev turn : tie.After-slice-known2 Inv-loop μ-loop → tie.In-loop Inv-loop �
 turn c = c .before .before .before .before
 
 -- row y ends within the map
-row-ends : (t : tie.In-loop Inv-loop μ-loop) → t .before .loop .y * start t .args .size .w + start t .args .size .w ≤ start t .args .size .w * start t .args .size .h
+row-ends : (t : tie.In-loop Inv-loop μ-loop)
+    → t .before .loop .y * start t .args .size .w + start t .args .size .w ≤ start t .args .size .w * start t .args .size .h
 row-ends t = row-in (start t .args .size .w) (t .loop-test .taken)
 
 loop-holds : tie.Need-loop-holds Inv-loop μ-loop
@@ -75,4 +76,5 @@ pub compute-response-spec : {M : Type 1} → statement M
 compute-response-spec =
     tie.close
     (tie.spec Inv-loop μ-loop loop-holds mul-a add-e mul-compute-response-row sub-compute-response-row
-    part-compute-response-row-start part-compute-response-row-end compute-response-row-requires add-y loop-less loop-again same-length returns)
+    part-compute-response-row-start part-compute-response-row-end compute-response-row-requires add-y loop-less loop-again
+    same-length returns)

@@ -22,7 +22,8 @@ add-deep-response : tie.Need-add-deep-response Inv-loop μ-loop
 add-deep-response c = omega arith
 
 deep-response-requires : tie.Need-deep-response-requires Inv-loop μ-loop
-deep-response-requires c κs = (record { left = omega arith; right = omega arith; above = start c .pre .0; below = start c .pre .1 }, start c .pre .4)
+deep-response-requires c κs =
+    (record { left = omega arith; right = omega arith; above = start c .pre .0; below = start c .pre .1 }, start c .pre .4)
 
 mul-out : tie.Need-mul-out Inv-loop μ-loop
 mul-out c = omega arith
@@ -48,4 +49,5 @@ returns c = line-all _ _ _ (c .before .loop .inv) (c .loop-test .left)
 pub deep-part-spec : {M : Type 1} → statement M
 deep-part-spec =
     tie.close
-    (tie.spec Inv-loop μ-loop loop-holds add-deep-response deep-response-requires mul-out slice-write-out add-i loop-less loop-again same-length returns)
+    (tie.spec Inv-loop μ-loop loop-holds add-deep-response deep-response-requires mul-out slice-write-out add-i loop-less
+    loop-again same-length returns)

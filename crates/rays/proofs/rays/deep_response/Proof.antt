@@ -116,7 +116,7 @@ squared-spread-requires c κs =
     let s = start4 c in
     let e = rays s in
     let most : (d : Way) → ray d (shown (s .args .row .now) (w s)) (s .args .at .r) (s .args .x) (s .args .at .y) ≤ 61425 =
-        λ d. ray-small (s .pre .1 .tables) d (s .pre .1 .short) (deep-inside (s .pre .0)) in
+    λ d. ray-small (s .pre .1 .tables) d (s .pre .1 .short) (deep-inside (s .pre .0)) in
     (omega (arith, most along), omega (arith, most down), omega (arith, most fall), omega (arith, most rise))
 
 returns : tie.Need-returns
@@ -134,6 +134,7 @@ returns c =
 pub deep-response-spec : {M : Type 1} → statement M
 deep-response-spec =
     tie.close
-    (tie.spec mul-here add-here add-below mul-below add-below-2 sub-above sub-above-2 mul-above add-above add-difference sub-difference sub-difference-2
+    (tie.spec mul-here add-here add-below mul-below add-below-2 sub-above sub-above-2 mul-above add-above add-difference
+    sub-difference sub-difference-2
     difference-requires difference-requires-2 add-difference-2 sub-difference-3 sub-difference-4 difference-requires-3
     sub-difference-5 add-difference-3 add-difference-4 difference-requires-4 squared-spread-requires returns)

@@ -16,14 +16,20 @@ use Rattle.rays.proofs.rays.deep_row.Tie as tie
 abbrev start : tie.After-slice-known → tie.Start
 start c = c .before .before .before .before .before
 
-abbrev first : tie.After-slice-known2 → tie.After-slice-known
-first c = c .before .before .before .before
+abbrev start1 : tie.After-slice-known2 → tie.Start
+start1 c = start (c .before .before .before .before)
 
 abbrev second : tie.After-slice-known3 → tie.After-slice-known2
 second c = c .before .before .before .before
 
+abbrev start2 : tie.After-slice-known3 → tie.Start
+start2 c = start1 (second c)
+
 abbrev third : tie.After-slice-known4 → tie.After-slice-known3
 third c = c .before .before .before .before
+
+abbrev start3 : tie.After-slice-known4 → tie.Start
+start3 c = start2 (third c)
 
 -- where the first part ends, and the second
 abbrev a : tie.Start → ℕ
@@ -38,35 +44,40 @@ f s = readAt (s .args .row .now) (s .args .at)
 
 abbrev row1 : tie.After-slice-known2 → List Float
 row1 c =
-    let s = start (first c) in
+    let s = start1 c in
     c .before .before .edge-part .last .1 .1 .1 .1 .1 .1 .0 ++ drop (a s - 0) (s .args .out .now)
 
-done1 : (c : tie.After-slice-known2) → row1 c ≡ filled (a (start (first c))) (f (start (first c))) (start (first c) .args .out .now)
+done1 : (c : tie.After-slice-known2) → row1 c ≡ filled (a (start1 c)) (f (start1 c)) (start1 c .args .out .now)
 done1 c =
-    let s = start (first c) in
-    part-more (f s) (s .args .out .now) 0 (a s) (filled-zero _ _) (omega arith) (omega arith) (c .before .before .edge-part .ensures)
+    let s = start1 c in
+    part-more (f s) (s .args .out .now) 0 (a s) (filled-zero _ _) (omega arith) (omega arith)
+    (c .before .before .edge-part .ensures)
 
 abbrev row2 : tie.After-slice-known3 → List Float
 row2 c =
-    let s = start (first (second c)) in
+    let s = start2 c in
     let old = row1 (second c) in
     take (a s) old ++ (c .before .before .deep-part .last .1 .1 .1 .1 .1 .1 .0 ++ drop (e s - a s) (drop (a s) old))
 
-done2 : (c : tie.After-slice-known3) → row2 c ≡ filled (e (start (first (second c)))) (f (start (first (second c)))) (start (first (second c)) .args .out .now)
+done2 : (c : tie.After-slice-known3)
+    → row2 c ≡ filled (e (start2 c)) (f (start2 c)) (start2 c .args .out .now)
 done2 c =
-    let s = start (first (second c)) in
-    part-more (f s) (s .args .out .now) (a s) (e s) (done1 (second c)) (omega arith) (omega arith) (c .before .before .deep-part .ensures)
+    let s = start2 c in
+    part-more (f s) (s .args .out .now) (a s) (e s) (done1 (second c)) (omega arith) (omega arith)
+    (c .before .before .deep-part .ensures)
 
 abbrev row3 : tie.After-slice-known4 → List Float
 row3 c =
-    let s = start (first (second (third c))) in
+    let s = start3 c in
     let old = row2 (third c) in
     take (e s) old ++ (c .before .before .edge-part2 .last .1 .1 .1 .1 .1 .1 .0 ++ drop (s .args .at .w - e s) (drop (e s) old))
 
-done3 : (c : tie.After-slice-known4) → row3 c ≡ filled (start (first (second (third c))) .args .at .w) (f (start (first (second (third c))))) (start (first (second (third c))) .args .out .now)
+done3 : (c : tie.After-slice-known4)
+    → row3 c ≡ filled (start3 c .args .at .w) (f (start3 c)) (start3 c .args .out .now)
 done3 c =
-    let s = start (first (second (third c))) in
-    part-more (f s) (s .args .out .now) (e s) (s .args .at .w) (done2 (third c)) (omega arith) (omega arith) (c .before .before .edge-part2 .ensures)
+    let s = start3 c in
+    part-more (f s) (s .args .out .now) (e s) (s .args .at .w) (done2 (third c)) (omega arith) (omega arith)
+    (c .before .before .edge-part2 .ensures)
 
 add-first : tie.Need-add-first
 add-first c = omega arith
@@ -106,8 +117,9 @@ part-deep-part-end c = omega (arith, length-fill _ _ _ (done1 c))
 deep-part-requires : tie.Need-deep-part-requires
 deep-part-requires c κs =
     let b = c .before in
-    let s = start (first b) in
-    (s .pre .0, s .pre .1, omega arith, omega (arith, part-long (f s) (s .args .out .now) (a s) (e s) (done1 b) (omega arith) (omega arith)), s .pre .4)
+    let s = start1 b in
+    let n = part-long (f s) (s .args .out .now) (a s) (e s) (done1 b) (omega arith) (omega arith) in
+    (s .pre .0, s .pre .1, omega arith, omega (arith, n), s .pre .4)
 
 mul-edge-part : tie.Need-mul-edge-part
 mul-edge-part c = omega arith
@@ -124,7 +136,7 @@ part-edge-part-end-2 c = omega (arith, length-fill _ _ _ (done2 c))
 edge-part-requires-2 : tie.Need-edge-part-requires-2
 edge-part-requires-2 c κs =
     let b = c .before in
-    let s = start (first (second b)) in
+    let s = start2 b in
     (omega (arith, part-long (f s) (s .args .out .now) (e s) (s .args .at .w) (done2 b) (omega arith) (omega arith)), s .pre .4)
 
 same-length : tie.Need-same-length

@@ -48,4 +48,5 @@ returns c = line-all _ _ _ (c .before .loop .inv) (c .loop-test .left)
 pub edge-part-spec : {M : Type 1} → statement M
 edge-part-spec =
     tie.close
-    (tie.spec Inv-loop μ-loop loop-holds add-response-or-zero response-or-zero-requires mul-out slice-write-out add-i loop-less loop-again same-length returns)
+    (tie.spec Inv-loop μ-loop loop-holds add-response-or-zero response-or-zero-requires mul-out slice-write-out add-i
+    loop-less loop-again same-length returns)

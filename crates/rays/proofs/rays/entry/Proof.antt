@@ -1,10 +1,10 @@
--- `entry`: past the edge a line has no pixels, and inside the table has its sum. Assumes nothing.
-use mathlib.Core.Path.{refl}
+-- `entry`: the tests are those of `entryAt`. Assumes nothing.
 use Prim.Native.Nat.{_+_, _-_, _*_, _≤_}
 use native.Mathlib.Omega.{arith}
 use borrow.Author.Needs.{needs}
+use borrow.Author.Tests.{lt-ltb, le-ltb, le-leb, lt-leb}
 use Rattle.grid.proofs.Plane.{row-in}
-use Rattle.grid.proofs.Ways.{none-past, holds-at}
+use Rattle.rays.specs.Shown.{entryAt}
 use Rattle.rays.proofs.rays.entry.Statement.{statement}
 use Rattle.rays.proofs.rays.entry.Tie as tie
 
@@ -16,13 +16,20 @@ row-ends : (c : tie.Else3) → (start c .args .y - 1) * start c .args .w + start
 row-ends c = row-in (start c .args .w) (omega arith)
 
 returns : tie.Need-returns
-returns c = λ h l. record { is = λ d f s r. none-past d f _ _ _ r (omega arith) }
+unfolding entryAt
+returns c = rw (le-ltb 0 (c .before .args .x) (omega arith))
 
 returns-2 : tie.Need-returns-2
-returns-2 c = λ h l. record { is = λ d f s r. none-past d f _ _ _ r (omega arith) }
+unfolding entryAt
+returns-2 c =
+    let s = c .before .before in
+    rw (lt-ltb 0 (s .args .x) (omega arith), le-ltb 0 (s .args .y) (omega arith))
 
 returns-3 : tie.Need-returns-3
-returns-3 c = λ h l. record { is = λ d f s r. none-past d f _ _ _ r (omega arith) }
+unfolding entryAt
+returns-3 c =
+    let s = c .before .before .before in
+    rw (lt-ltb 0 (s .args .x) (omega arith), lt-ltb 0 (s .args .y) (omega arith), lt-leb (s .args .x) (s .args .w) (c .if3 .taken))
 
 sub-result : tie.Need-sub-result
 sub-result c = search needs
@@ -43,7 +50,12 @@ shared-slice-read-result : tie.Need-shared-slice-read-result
 shared-slice-read-result c = omega (arith, row-ends (c .before))
 
 returns-4 : tie.Need-returns-4
-returns-4 c = λ h l. record { is = λ d f s r. holds-at s _ _ (omega arith) (omega arith) (omega arith) (omega arith) refl }
+unfolding entryAt
+returns-4 c =
+    let s = start (c .before) in
+    rw (lt-ltb 0 (s .args .x) (omega arith), lt-ltb 0 (s .args .y) (omega arith), le-leb (s .args .x) (s .args .w) (omega arith))
 
 pub entry-spec : {M : Type 1} → statement M
-entry-spec = tie.close (tie.spec returns returns-2 returns-3 sub-result mul-result sub-result-2 add-result mul-result-2 shared-slice-read-result returns-4)
+entry-spec =
+    tie.close (tie.spec returns returns-2 returns-3 sub-result mul-result sub-result-2 add-result mul-result-2
+    shared-slice-read-result returns-4)

@@ -1,55 +1,48 @@
 -- `radon_response_at`: the four differences are the four rays, also where an entry is past the edge. Assumes nothing.
-use mathlib.Core.Path.{_≡_, _∙_}
-use Prim.Native.Nat.{ℕ, _+_, _-_, _*_, _≤_}
+use mathlib.Core.Path.{_∙_}
+use mathlib.Core.List.{List}
+use Prim.Native.Nat.{ℕ, _*_, _≤_}
 use native.Mathlib.Omega.{arith}
+use lib.ListN.{length}
 use borrow.Author.Needs.{needs}
-use Rattle.grid.specs.Ways.{Way, along, down, fall, rise, ray}
-use Rattle.grid.proofs.Ways.{ray-by}
+use Rattle.grid.specs.Ways.{Way, along, down, fall, rise, ray, Holds}
 use Rattle.rays.specs.Shown.{shown}
 use Rattle.rays.proofs.Inner.{response-in}
-use Rattle.rays.proofs.Showing.{rows-room, ray-small}
+use Rattle.rays.proofs.Showing.{EdgeRay, edge-ray, ray-small}
 use Rattle.rays.proofs.rays.radon_response_at.Statement.{statement}
 use Rattle.rays.proofs.rays.radon_response_at.Tie as tie
 
 abbrev start : tie.After-shared-slice-known4 → tie.Start
 start c = c .before .before .before .before
 
-abbrev start2 : tie.After-entry2 → tie.Start
+abbrev start2 : tie.After-between2 → tie.Start
 start2 c = start (c .before .before)
 
-abbrev start4 : tie.After-entry4 → tie.Start
+abbrev start4 : tie.After-between4 → tie.Start
 start4 c = start2 (c .before .before)
 
-abbrev start6 : tie.After-entry6 → tie.Start
-start6 c = start4 (c .before .before)
+-- ---- each difference is a ray
 
-abbrev start8 : tie.After-entry8 → tie.Start
-start8 c = start6 (c .before .before)
+abbrev RayOf : Way → List ℕ → tie.Start → Type 0
+RayOf d t s =
+    EdgeRay d (shown (s .args .row .now) (s .args .at .w)) t (s .args .at .w) (s .args .at .r) (s .args .x) (s .args .at .y)
 
-abbrev Ray : Way → tie.Start → ℕ
-Ray d s = ray d (shown (s .args .row .now) (s .args .at .w)) (s .args .at .r) (s .args .x) (s .args .at .y)
+ray-of : (s : tie.Start) (d : Way) {t : List ℕ}
+    → Holds d (shown (s .args .row .now) (s .args .at .w)) (s .args .at .w) (s .args .at .h) t
+    → s .args .at .w * s .args .at .h ≤ length t → RayOf d t s
+ray-of s d h l = edge-ray d h (s .pre .0) (s .pre .1 .tables .wide) (s .pre .1 .tables .high) l
 
--- ---- each difference does not wrap, and is a ray
+on-row : (s : tie.Start) → RayOf along (s .args .row .now) s
+on-row s = ray-of s along (s .pre .1 .tables .rows) (s .pre .1 .tables .row-long)
 
-on-row : (c : tie.After-entry2) → (c .entry2 .result ≤ c .before .entry .result) × (c .before .entry .result - c .entry2 .result ≡ Ray along (start2 c))
-on-row c =
-    let p = start2 c .pre in
-    ray-by along (p .1 .tables .rows) (p .0) (c .before .entry .ensures _ (omega arith)) (c .entry2 .ensures _ (omega arith))
+on-col : (s : tie.Start) → RayOf down (s .args .col .now) s
+on-col s = ray-of s down (s .pre .1 .tables .columns) (s .pre .1 .tables .col-long)
 
-on-col : (c : tie.After-entry4) → (c .entry4 .result ≤ c .before .entry3 .result) × (c .before .entry3 .result - c .entry4 .result ≡ Ray down (start4 c))
-on-col c =
-    let p = start4 c .pre in
-    ray-by down (p .1 .tables .columns) (p .0) (c .before .entry3 .ensures _ (omega arith)) (c .entry4 .ensures _ (omega arith))
+on-falling : (s : tie.Start) → RayOf fall (s .args .falling .now) s
+on-falling s = ray-of s fall (s .pre .1 .tables .falls) (s .pre .1 .tables .falling-long)
 
-on-falling : (c : tie.After-entry6) → (c .entry6 .result ≤ c .before .entry5 .result) × (c .before .entry5 .result - c .entry6 .result ≡ Ray fall (start6 c))
-on-falling c =
-    let p = start6 c .pre in
-    ray-by fall (p .1 .tables .falls) (p .0) (c .before .entry5 .ensures _ (omega arith)) (c .entry6 .ensures _ (omega arith))
-
-on-rising : (c : tie.After-entry8) → (c .entry8 .result ≤ c .before .entry7 .result) × (c .before .entry7 .result - c .entry8 .result ≡ Ray rise (start8 c))
-on-rising c =
-    let p = start8 c .pre in
-    ray-by rise (p .1 .tables .rises) (p .0) (c .before .entry7 .ensures _ (omega arith)) (c .entry8 .ensures _ (omega arith))
+on-rising : (s : tie.Start) → RayOf rise (s .args .rising .now) s
+on-rising s = ray-of s rise (s .pre .1 .tables .rises) (s .pre .1 .tables .rising-long)
 
 sub-x0 : tie.Need-sub-x0
 sub-x0 c = search needs
@@ -69,96 +62,61 @@ add-y1 c = search needs
 add-y1-2 : tie.Need-add-y1-2
 add-y1-2 c = search needs
 
-add-entry : tie.Need-add-entry
-add-entry c = search needs
+add-between : tie.Need-add-between
+add-between c = search needs
 
-entry-requires : tie.Need-entry-requires
-entry-requires c κs =
-    let q = rows-room (start c .pre .1 .tables) (start c .args .at .y + 1) (omega arith) in
-    (q .0, q .1, q .2)
+add-between-2 : tie.Need-add-between-2
+add-between-2 c = search needs
 
-add-entry-2 : tie.Need-add-entry-2
-add-entry-2 c = search needs
+between-requires : tie.Need-between-requires
+between-requires c κs = on-row (start c) .reads
 
-entry-requires-2 : tie.Need-entry-requires-2
-entry-requires-2 c κs =
-    let q = rows-room (start (c .before) .pre .1 .tables) (start (c .before) .args .at .y + 1) (omega arith) in
-    (q .0, q .1, q .2)
+add-between-3 : tie.Need-add-between-3
+add-between-3 c = search needs
 
-sub-s-h : tie.Need-sub-s-h
-sub-s-h c = on-row c .0
+add-between-4 : tie.Need-add-between-4
+add-between-4 c = search needs
 
-add-entry-3 : tie.Need-add-entry-3
-add-entry-3 c = search needs
+between-requires-2 : tie.Need-between-requires-2
+between-requires-2 c κs = on-col (start (c .before)) .reads
 
-entry-requires-3 : tie.Need-entry-requires-3
-entry-requires-3 c κs =
-    let q = rows-room (start2 c .pre .1 .tables) (start2 c .args .at .y + start2 c .args .at .r + 1) (omega arith) in
-    (q .0, q .1, q .3)
+between-requires-3 : tie.Need-between-requires-3
+between-requires-3 c κs = on-falling (start2 c) .reads
 
-add-entry-4 : tie.Need-add-entry-4
-add-entry-4 c = search needs
+add-between-5 : tie.Need-add-between-5
+add-between-5 c = search needs
 
-entry-requires-4 : tie.Need-entry-requires-4
-entry-requires-4 c κs =
-    let q = rows-room (start2 (c .before) .pre .1 .tables) (start2 (c .before) .args .at .y - start2 (c .before) .args .at .r) (omega arith) in
-    (q .0, q .1, q .3)
+add-between-6 : tie.Need-add-between-6
+add-between-6 c = search needs
 
-sub-s-v : tie.Need-sub-s-v
-sub-s-v c = on-col c .0
-
-entry-requires-5 : tie.Need-entry-requires-5
-entry-requires-5 c κs =
-    let q = rows-room (start4 c .pre .1 .tables) (start4 c .args .at .y + start4 c .args .at .r + 1) (omega arith) in
-    (q .0, q .1, q .4)
-
-entry-requires-6 : tie.Need-entry-requires-6
-entry-requires-6 c κs =
-    let q = rows-room (start4 (c .before) .pre .1 .tables) (start4 (c .before) .args .at .y - start4 (c .before) .args .at .r) (omega arith) in
-    (q .0, q .1, q .4)
-
-sub-s-d1 : tie.Need-sub-s-d1
-sub-s-d1 c = on-falling c .0
-
-add-entry-5 : tie.Need-add-entry-5
-add-entry-5 c = omega arith
-
-entry-requires-7 : tie.Need-entry-requires-7
-entry-requires-7 c κs =
-    let q = rows-room (start6 c .pre .1 .tables) (start6 c .args .at .y + start6 c .args .at .r + 1) (omega arith) in
-    (q .0, q .1, q .5)
-
-add-entry-6 : tie.Need-add-entry-6
-add-entry-6 c = omega arith
-
-entry-requires-8 : tie.Need-entry-requires-8
-entry-requires-8 c κs =
-    let q = rows-room (start6 (c .before) .pre .1 .tables) (start6 (c .before) .args .at .y - start6 (c .before) .args .at .r) (omega arith) in
-    (q .0, q .1, q .5)
-
-sub-s-d2 : tie.Need-sub-s-d2
-sub-s-d2 c = on-rising c .0
+between-requires-4 : tie.Need-between-requires-4
+between-requires-4 c κs = on-rising (start2 (c .before)) .reads
 
 squared-spread-requires : tie.Need-squared-spread-requires
 squared-spread-requires c κs =
-    let p = start8 c .pre in
-    let f = c .before .before in
-    let v = f .before .before in
-    let most : (d : Way) → Ray d (start8 c) ≤ 61425 = λ d. ray-small (p .1 .tables) d (p .1 .short) (p .0) in
-    (omega (arith, most along, on-row (v .before .before) .1), omega (arith, most down, on-col v .1),
-      omega (arith, most fall, on-falling f .1), omega (arith, most rise, on-rising c .1))
+    let s = start4 c in
+    let most : (d : Way) → ray d (shown (s .args .row .now) (s .args .at .w)) (s .args .at .r) (s .args .x) (s .args .at .y) ≤ 61425 =
+    λ d. ray-small (s .pre .1 .tables) d (s .pre .1 .short) (s .pre .0) in (
+      omega (arith, most along, on-row s .is),
+      omega (arith, most down, on-col s .is),
+      omega (arith, most fall, on-falling s .is),
+      omega (arith, most rise, on-rising s .is),
+    )
 
 returns : tie.Need-returns
 returns c =
-    let n = c .before in
-    let f = n .before .before in
-    let v = f .before .before in
+    let b = c .before in
+    let s = start4 b in
     c .squared-spread .ensures
-    ∙ response-in _ _ _ _ _ _ (start8 n .pre .0) (on-row (v .before .before) .1) (on-col v .1) (on-falling f .1) (on-rising n .1)
+    ∙ response-in _ _ _ _ _ _ (s .pre .0)
+    (b .before .before .before .between .ensures ∙ on-row s .is)
+    (b .before .before .between2 .ensures ∙ on-col s .is)
+    (b .before .between3 .ensures ∙ on-falling s .is)
+    (b .between4 .ensures ∙ on-rising s .is)
 
 pub radon-response-at-spec : {M : Type 1} → statement M
 radon-response-at-spec =
     tie.close
-    (tie.spec sub-x0 sub-y0 add-x1 add-x1-2 add-y1 add-y1-2 add-entry entry-requires add-entry-2 entry-requires-2 sub-s-h
-    add-entry-3 entry-requires-3 add-entry-4 entry-requires-4 sub-s-v entry-requires-5 entry-requires-6 sub-s-d1
-    add-entry-5 entry-requires-7 add-entry-6 entry-requires-8 sub-s-d2 squared-spread-requires returns)
+    (tie.spec sub-x0 sub-y0 add-x1 add-x1-2 add-y1 add-y1-2 add-between add-between-2 between-requires add-between-3
+    add-between-4 between-requires-2 between-requires-3 add-between-5 add-between-6 between-requires-4
+    squared-spread-requires returns)

@@ -30,4 +30,5 @@ returns-5 : tie.Need-returns-5
 returns-5 c = search needs
 
 pub response-or-zero-spec : {M : Type 1} → statement M
-response-or-zero-spec = tie.close (tie.spec returns add-if2 returns-2 returns-3 add-if4 returns-4 radon-response-at-requires returns-5)
+response-or-zero-spec =
+    tie.close (tie.spec returns add-if2 returns-2 returns-3 add-if4 returns-4 radon-response-at-requires returns-5)

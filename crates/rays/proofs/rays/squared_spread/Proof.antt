@@ -67,5 +67,6 @@ returns c =
 pub squared-spread-spec : {M : Type 1} → statement M
 squared-spread-spec =
     tie.close
-    (tie.spec cast-p cast-q cast-s cast-t larger-requires larger-requires-2 larger-requires-3 smaller-requires smaller-requires-2 smaller-requires-3
+    (tie.spec cast-p cast-q cast-s cast-t larger-requires larger-requires-2 larger-requires-3 smaller-requires
+    smaller-requires-2 smaller-requires-3
     sub-n int-to-float-n returns)
