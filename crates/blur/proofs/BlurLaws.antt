@@ -66,13 +66,13 @@ scratched-ext g k w h (suc r) old e = plane-ext w h _ _ old (λ x y a b. rowMean
 
 -- ---- the scratch: old contents change nothing that is written, entries beyond stay, and without a blur all of it
 
-module _ (g : ℕ → ℕ → Float) (w h : ℕ) (old : List Float) where
-  pub same-scratch : (r : ℕ) (new : List Float) → w * h ≤ length old → w * h ≤ length new → 0 < r
-      → take (w * h) (scratched g w h r old) ≡ take (w * h) (scratched g w h r new)
-  unfolding scratched
-  same-scratch zero new l m z = absurd (omega arith)
-  same-scratch (suc r) new l m z = written-same (w * h) _ old new l m
+pub same-scratch : (g : ℕ → ℕ → Float) (w h r : ℕ) (old new : List Float) → w * h ≤ length old → w * h ≤ length new → 0 < r
+    → take (w * h) (scratched g w h r old) ≡ take (w * h) (scratched g w h r new)
+unfolding scratched
+same-scratch g w h zero old new l m z = absurd (omega arith)
+same-scratch g w h (suc r) old new l m z = written-same (w * h) _ old new l m
 
+module _ (g : ℕ → ℕ → Float) (w h : ℕ) (old : List Float) where
   pub beyond-scratch : (r : ℕ) → drop (w * h) (scratched g w h r old) ≡ drop (w * h) old
   unfolding scratched
   beyond-scratch zero = refl
