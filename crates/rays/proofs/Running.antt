@@ -118,7 +118,7 @@ module _ {d : Diagonal} (e : d ≡ Falling) (img : List ℕ) (w y : ℕ) (xs : L
         least = omega arith;
         apart = omega arith;
         image = a .image;
-        room = omega (arith, a .room, fall-begun .long);
+        room = omega (arith, a .room, fall-begun .steps .long);
         small = λ k l m. row-fits fall img w y xs fall-begun fall-above small k (omega arith);
       }
 
