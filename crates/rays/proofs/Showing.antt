@@ -106,6 +106,11 @@ pub record EdgeRay (d : Way) (f : ℕ → ℕ → ℕ) (t : List ℕ) (w r x y :
   pub reads : Between t w (lowx d x r) (lowy d y r) (endx d x r + 1) (endy d y r + 1)
   pub is : entryAt t w (endx d x r + 1) (endy d y r + 1) - entryAt t w (lowx d x r) (lowy d y r) ≡ ray d f r x y
 
+-- what is read is the ray
+pub ray-read : {d : Way} {f : ℕ → ℕ → ℕ} {t : List ℕ} {w r x y v : ℕ} → EdgeRay d f t w r x y
+    → v ≡ entryAt t w (endx d x r + 1) (endy d y r + 1) - entryAt t w (lowx d x r) (lowy d y r) → v ≡ ray d f r x y
+ray-read e q = q ∙ e .is
+
 pub edge-ray : (d : Way) {f : ℕ → ℕ → ℕ} {w h r x y : ℕ} {t : List ℕ} → Holds d f w h t → Inside w h r x y → w ≤ 8192
     → h ≤ 8192 → w * h ≤ length t
     → EdgeRay d f t w r x y
