@@ -95,7 +95,8 @@ module _ (base : ℕ) (two : 2 ≤ base) where
       down zero least n h = absurd (omega arith)
       down (suc d) least n h = at (single base least n) refl (down d (least - 1) (n / base))
         where
-          at : (t : Bool) → single base least n ≡ t → (n / base + (least - 1) < d → P (least - 1) (n / base)) → P least n
+          at : (t : Bool) → single base least n ≡ t → (n / base + (least - 1) < d → P (least - 1) (n / base))
+              → P least n
           at true e f = one least n e
           at false e f = more least n e (f (omega (arith, falls least n e)))
 
@@ -152,7 +153,8 @@ module _ (base : ℕ) (two : 2 ≤ base) where
       one least n e (suc i) = rw (digits-last base two least n e) (omega arith)
 
       more : (least n : ℕ) → single base least n ≡ false → Below (least - 1) (n / base) → Below least n
-      more least n e h i = rw (digits-more base two least n e) (below-more (higher least n) h (mod-lt n (omega arith)) i)
+      more least n e h i =
+          rw (digits-more base two least n e) (below-more (higher least n) h (mod-lt n (omega arith)) i)
 
   -- at least so many, and not none
   abbrev Least : ℕ → ℕ → Type 0

@@ -1,5 +1,5 @@
--- Printed lines, computed from the definitions: document 01's frame, a refusal, a full list, and floats that are easy to
--- get wrong. Assumes nothing.
+-- Printed lines, computed from the definitions: document 01's frame, a refusal, a full list, and floats that are easy
+-- to get wrong. Assumes nothing.
 use mathlib.Core.Path.{_≡_, refl}
 use mathlib.Core.List.{List, [], _∷_}
 use lib.Ieee.{Float, nan, binary32, ofBits, toBits, ofFields, odd, size}
