@@ -1,18 +1,7 @@
 -- `frame::line_at` meets its contract: each way out is a line of the printed ones. Assumes nothing.
 use borrow.Author.Needs.{needs}
-use Rattle.frame.proofs.Printing.{
-  Refusal,
-  refused-at,
-  refused-past,
-  Listing,
-  first-at,
-  corner-line,
-  full-at,
-  none-at,
-  past-at,
-  shows-as,
-  shows-nothing,
-}
+use Rattle.frame.proofs.Printing.{Refusal, refused-at, refused-past, Listing, first-at, corner-line, full-at}
+use Rattle.frame.proofs.Printing.{none-at, past-at, shows-as, shows-nothing}
 use Rattle.frame.proofs.line_at.Statement.{statement}
 use Rattle.frame.proofs.line_at.Tie as tie
 
