@@ -23,9 +23,18 @@ use Rattle.blur.specs.Blur.{valueAt, counted, windowSum, meanAt, rowMean
 pub place-in : (n r x k : ℕ) → k < counted n r x → x - r + k < n
 place-in n r x k b = omega arith
 
-pub windowSum-ext : (f g : ℕ → Float) (n r x : ℕ) → ((j : ℕ) → j < n → f j ≡ g j) → windowSum f n r x ≡ windowSum g n r x
+-- and no further from x than r
+place-near : (n r x k : ℕ) → k < counted n r x → (x ≤ x - r + k + r) × (x - r + k ≤ x + r)
+place-near n r x k b = omega arith
+
+-- only the values in the window count
+pub windowSum-near : (f g : ℕ → Float) (n r x : ℕ) → ((j : ℕ) → x ≤ j + r → j ≤ x + r → j < n → f j ≡ g j) → windowSum f n r x ≡ windowSum g n r x
 unfolding windowSum
-windowSum-ext f g n r x e = fold-ext (add binary32) f0 _ _ (counted n r x) (λ k b. e (x - r + k) (place-in n r x k b))
+windowSum-near f g n r x e =
+    fold-ext (add binary32) f0 _ _ (counted n r x) (λ k b. e (x - r + k) (place-near n r x k b .0) (place-near n r x k b .1) (place-in n r x k b))
+
+pub windowSum-ext : (f g : ℕ → Float) (n r x : ℕ) → ((j : ℕ) → j < n → f j ≡ g j) → windowSum f n r x ≡ windowSum g n r x
+windowSum-ext f g n r x e = windowSum-near f g n r x (λ j _ _ b. e j b)
 
 pub meanAt-ext : (f g : ℕ → Float) (n r x : ℕ) → ((j : ℕ) → j < n → f j ≡ g j) → meanAt f n r x ≡ meanAt g n r x
 unfolding meanAt
@@ -35,10 +44,15 @@ pub rowMean-ext : (g k : ℕ → ℕ → Float) (w r x y : ℕ) → ((j : ℕ) �
 unfolding rowMean
 rowMean-ext g k w r x y e = meanAt-ext (λ j. g j y) (λ j. k j y) w r x e
 
-pub columnMean-ext : (g k : ℕ → ℕ → Float) (h r x y : ℕ) → ((j : ℕ) → j < h → g x j ≡ k x j)
+-- the rows of the window alone, for a pass that fills the others later
+pub columnMean-near : (g k : ℕ → ℕ → Float) (h r x y : ℕ) → ((j : ℕ) → y ≤ j + r → j ≤ y + r → j < h → g x j ≡ k x j)
     → columnMean g h r x y ≡ columnMean k h r x y
 unfolding columnMean
-columnMean-ext g k h r x y e = rw (windowSum-ext (λ j. g x j) (λ j. k x j) h r y e)
+columnMean-near g k h r x y e = rw (windowSum-near (λ j. g x j) (λ j. k x j) h r y e)
+
+pub columnMean-ext : (g k : ℕ → ℕ → Float) (h r x y : ℕ) → ((j : ℕ) → j < h → g x j ≡ k x j)
+    → columnMean g h r x y ≡ columnMean k h r x y
+columnMean-ext g k h r x y e = columnMean-near g k h r x y (λ j _ _ b. e j b)
 
 pub blurAt-ext : (g k : ℕ → ℕ → Float) (w h r x y : ℕ) → x < w → y < h → ((i j : ℕ) → i < w → j < h → g i j ≡ k i j)
     → blurAt g w h r x y ≡ blurAt k w h r x y
@@ -54,13 +68,13 @@ scratched-ext g k w h (suc r) old e = plane-ext w h _ _ old (λ x y a b. rowMean
 
 -- ---- the scratch: old contents change nothing that is written, entries beyond stay, and without a blur all of it
 
-module _ (g : ℕ → ℕ → Float) (w h : ℕ) (old : List Float) where
-  pub same-scratch : (r : ℕ) (new : List Float) → w * h ≤ length old → w * h ≤ length new → 0 < r
-      → take (w * h) (scratched g w h r old) ≡ take (w * h) (scratched g w h r new)
-  unfolding scratched
-  same-scratch zero new l m z = absurd (omega arith)
-  same-scratch (suc r) new l m z = written-same (w * h) _ old new l m
+pub same-scratch : (g : ℕ → ℕ → Float) (w h r : ℕ) (old new : List Float) → w * h ≤ length old → w * h ≤ length new → 0 < r
+    → take (w * h) (scratched g w h r old) ≡ take (w * h) (scratched g w h r new)
+unfolding scratched
+same-scratch g w h zero old new l m z = absurd (omega arith)
+same-scratch g w h (suc r) old new l m z = written-same (w * h) _ old new l m
 
+module _ (g : ℕ → ℕ → Float) (w h : ℕ) (old : List Float) where
   pub beyond-scratch : (r : ℕ) → drop (w * h) (scratched g w h r old) ≡ drop (w * h) old
   unfolding scratched
   beyond-scratch zero = refl

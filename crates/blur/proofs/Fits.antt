@@ -70,8 +70,8 @@ column-fits {w} {h} {y} {r} {size} {room} f =
     let m : Fitting w h size = record { wide = f .wide; high = f .high; inside = f .source } in
     true-both (map-fits (f .few) m) (true-both (lt-ltb y h (f .row)) (le-leb w room (f .within)))
 
-pub blur-fits-in : {w h r size room : ℕ} → FittingMaps w h r size room → blurFits w h r size room ≡ true
-blur-fits-in f = map-fits (f .few) (record { wide = f .wide; high = f .high; inside = omega arith })
+pub maps-fit : {w h r size room : ℕ} → FittingMaps w h r size room → blurFits w h r size room ≡ true
+maps-fit f = map-fits (f .few) (record { wide = f .wide; high = f .high; inside = omega arith })
 
 -- ---- so the plain value: old is what the buffer held
 
@@ -83,4 +83,4 @@ module _ {A : Type 0} {new after : A} (old : A) where
   column-plain f e = rw (column-fits f) at e
 
   pub blur-plain : {w h r size room : ℕ} → FittingMaps w h r size room → after ≡ cond (blurFits w h r size room) new old → after ≡ new
-  blur-plain f e = rw (blur-fits-in f) at e
+  blur-plain f e = rw (maps-fit f) at e

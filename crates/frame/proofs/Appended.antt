@@ -65,7 +65,8 @@ pub shows : (text : List ℕ) {r : Line} → r ≡ lineOf text → Shows text r
 shows text e = record { is = e; fits = rw e (omega (arith, length-append text (replicate (64 - length text) 0))) }
 
 pub shown : {k : ℕ} {text : List ℕ} {l r : Line} → l ≡ blank → Grown k l text r → k ≤ 64 → Shows text r
-shown {text = text} e g h = shows text (g .is ∙ ap (λ (l : Line). appended l text) e ∙ shown-at text (omega (arith, g .most)))
+shown {text = text} e g h =
+    shows text (g .is ∙ ap (λ (l : Line). appended l text) e ∙ shown-at text (omega (arith, g .most)))
 
 -- three fields make a line
 pub three-shown : {i j k : ℕ} {l m n r : Line} (a b c : List ℕ) → l ≡ blank
@@ -83,7 +84,10 @@ pub record Copied (line : Line) (s : List ℕ) (longer : Line) (i : ℕ) : Type 
 module _ (line : Line) (s : List ℕ) where
   pub copied-none : Copied line s line 0
   unfolding appended
-  copied-none = record { most = omega arith; is = ap (λ (n : ℕ). record { bytes = line .bytes; len = n }) (sym (add-zero (line .len))) }
+  copied-none = record {
+    most = omega arith;
+    is = ap (λ (n : ℕ). record { bytes = line .bytes; len = n }) (sym (add-zero (line .len)));
+  }
 
   module _ {longer : Line} {i : ℕ} (c : Copied line s longer i) where
     pub copied-len : longer .len ≡ line .len + i
@@ -93,7 +97,9 @@ module _ (line : Line) (s : List ℕ) where
     copied-more {r} h e = record { most = omega arith; is = is }
       where
         is : r ≡ appended line (take (i + 1) s)
-        is = e ∙ ap (λ (l : Line). appended l (getD s i 0 ∷ [])) (c .is) ∙ appended-more line (take i s) (getD s i 0 ∷ [])
+        is =
+            e ∙ ap (λ (l : Line). appended l (getD s i 0 ∷ [])) (c .is)
+            ∙ appended-more line (take i s) (getD s i 0 ∷ [])
             ∙ ap (appended line) (sym (take-suc s i 0 h) ∙ ap (λ (n : ℕ). take n s) (sym (add-one i)))
 
     pub copied-all : length s ≤ i → longer ≡ appended line s

@@ -1,5 +1,5 @@
--- The two steps of `text::number`, a single digit, and the digits before the last with that behind them; and a numeral with a
--- byte behind it. Assumes nothing.
+-- The two steps of `text::number`, a single digit, and the digits before the last with that behind them; and a numeral
+-- with a byte behind it. Assumes nothing.
 use mathlib.Core.Path.{_≡_, sym, ap, _∙_}
 use mathlib.Core.Bool.{Bool, true, false}
 use mathlib.Core.List.{[], _∷_, _++_}
@@ -11,7 +11,8 @@ use lib.ListN.{length, length-append}
 use Rattle.frame.specs.declared.Line.{Line}
 use Rattle.frame.specs.Printed.{digitOf, numeral}
 use Rattle.frame.specs.Lines.{Short, appended, Grown}
-use Rattle.frame.proofs.Numerals.{single, single-yes, falls, numeral-last, numeral-more, numeral-some, numeral-most}
+use Rattle.frame.proofs.Numerals.{single, single-yes, falls}
+use Rattle.frame.proofs.Numerals.{numeral-last, numeral-more, numeral-some, numeral-most}
 use Rattle.frame.proofs.Appended.{appended-more, appended-len}
 
 -- what `text::number` asks, and the measure t of the call
@@ -21,7 +22,8 @@ pub record Due (line : Line) (base least n t : ℕ) : Type 0 where
   pub most : base ≤ 16
   pub room : line .len + length (numeral base least n) ≤ 64
 
-module _ {line : Line} {base least n t : ℕ} (due : Due line base least n t) {one : Bool} (is : one ≡ single base least n) where
+module _ {line : Line} {base least n t : ℕ} (due : Due line base least n t)
+    {one : Bool} (is : one ≡ single base least n) where
   -- ---- one digit
 
   module _ (yes : one ≡ true) where
@@ -31,7 +33,8 @@ module _ {line : Line} {base least n t : ℕ} (due : Due line base least n t) {o
     pub last-room : line .len < 64
     last-room = omega (arith, due .room, numeral-some base (due .two) least n)
 
-    pub last-is : {d : ℕ} {r : Line} → d ≡ digitOf n → r ≡ appended line (d ∷ []) → r ≡ appended line (numeral base least n)
+    pub last-is : {d : ℕ} {r : Line} → d ≡ digitOf n → r ≡ appended line (d ∷ [])
+        → r ≡ appended line (numeral base least n)
     last-is f g =
         rw (numeral-last base (due .two) least n (sym is ∙ yes))
         (g ∙ ap (λ (d : ℕ). appended line (d ∷ [])) f)
@@ -49,7 +52,8 @@ module _ {line : Line} {base least n t : ℕ} (due : Due line base least n t) {o
           (length-append (numeral base (least - 1) (n / base)) (digitOf (n % base) ∷ []))
 
       -- what the call for them asks: its measure falls
-      pub before-last : (n / base + m < t) × (2 ≤ base) × (base ≤ 16) × (line .len + length (numeral base m (n / base)) ≤ 64)
+      pub before-last : (n / base + m < t) × (2 ≤ base) × (base ≤ 16)
+          × (line .len + length (numeral base m (n / base)) ≤ 64)
       before-last = (
         rw (less, ← due .measure) (falls base (due .two) least n (sym is ∙ no)),
         due .two,
@@ -62,7 +66,8 @@ module _ {line : Line} {base least n t : ℕ} (due : Due line base least n t) {o
         pub push-room : h .len < 64
         push-room = omega (arith, due .room, long, appended-len line (numeral base m (n / base)) higher)
 
-        pub more-is : {d : ℕ} {r : Line} → d ≡ digitOf (n % base) → r ≡ appended h (d ∷ []) → r ≡ appended line (numeral base least n)
+        pub more-is : {d : ℕ} {r : Line} → d ≡ digitOf (n % base) → r ≡ appended h (d ∷ [])
+            → r ≡ appended line (numeral base least n)
         more-is {d} f g =
             rw (numeral-more base (due .two) least n (sym is ∙ no), ← less)
             (g ∙ ap (λ (x : Line). appended x (d ∷ [])) higher

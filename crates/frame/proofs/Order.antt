@@ -1,5 +1,5 @@
--- The tests of `readOf` in their order: what one answers where it applies, and that the next is asked where it does not.
--- Assumes nothing.
+-- The tests of `readOf` in their order: what one answers where it applies, and that the next is asked where it does
+-- not. Assumes nothing.
 use mathlib.Core.Path.{_≡_, refl, sym, ap, _∙_}
 use mathlib.Core.Bool.{Bool, true, false, not, cond}
 use mathlib.Core.List.{List}
@@ -50,13 +50,14 @@ module _ (a : Answer) (v due : ℕ) {n : ℕ} (is : n ≡ v) where
   unfolding held
   holds h = rw (← is, eq-eqb n due h)
 
--- f is what its reader answers: with a value the next test is asked, otherwise reading ends with the refusal that it carries
+-- f is what its reader answers: with a value the next test is asked, otherwise reading ends with its refusal
 module _ (a : Answer) (v due : ℕ) {f : Field} (is : f ≡ held a v due) where
   pub goes-on : {n : ℕ} {r rest : Reading} → f ≡ number.Value n → r ≡ rest → r ≡ cond (not (eqb v due)) (Refused a) rest
   unfolding held
   goes-on {n} {r} {rest} e h = only (eqb v due) (sym e ∙ is)
     where
-      only : (t : Bool) → number.Value n ≡ cond t (number.Value v) (number.Refused a) → r ≡ cond (not t) (Refused a) rest
+      only : (t : Bool) → number.Value n ≡ cond t (number.Value v) (number.Refused a)
+          → r ≡ cond (not t) (Refused a) rest
       only true e = h
       only false e = absurd (let z : _≡_ {A = ℕ} 0 1 = cc in omega arith)
 

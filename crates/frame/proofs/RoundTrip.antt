@@ -1,5 +1,6 @@
--- No good file is refused: the bytes that document 01 prescribes for a header and pixels are taken, and mean that header and
--- those pixels. And no other file is taken: every taken file is the one for its fields and pixels. Assumes nothing.
+-- No good file is refused: the bytes that document 01 prescribes for a header and pixels are taken, and mean that
+-- header and those pixels. And no other file is taken: every taken file is the one for its fields and pixels. Assumes
+-- nothing.
 use mathlib.Core.Path.{_≡_, refl, sym, ap, _∙_}
 use mathlib.Core.Bool.{Bool, true, false, cond}
 use mathlib.Core.List.{List, [], _∷_}
@@ -44,17 +45,23 @@ pub record InRange (f : Fields) : Type 0 where
   pub least : f .least < 65536
   pub threshold : f .threshold < 4294967296
 
+-- n in front of what follows, as two bytes and as four
+abbrev halfThen : ℕ → List ℕ → List ℕ
+halfThen n l = n / 256 ∷ n % 256 ∷ l
+
+abbrev wordThen : ℕ → List ℕ → List ℕ
+wordThen n l = n / 16777216 ∷ n / 65536 % 256 ∷ n / 256 % 256 ∷ n % 256 ∷ l
+
 -- the file: byte 0, bytes 1 to 4, and so on to byte 19, then the pixels
 abbrev pub fileOf : Fields → List ℕ → List ℕ
 fileOf f pixels =
     1
-    ∷ (15 + length pixels) / 16777216 ∷ (15 + length pixels) / 65536 % 256 ∷ (15 + length pixels) / 256 % 256 ∷ (15 + length pixels) % 256
-    ∷ f .width / 256 ∷ f .width % 256
-    ∷ f .height / 256 ∷ f .height % 256
-    ∷ f .ray ∷ f .upsampling ∷ f .blur ∷ f .mode ∷ f .suppression
-    ∷ f .least / 256 ∷ f .least % 256
-    ∷ f .threshold / 16777216 ∷ f .threshold / 65536 % 256 ∷ f .threshold / 256 % 256 ∷ f .threshold % 256
-    ∷ pixels
+    ∷ wordThen (15 + length pixels)
+    (halfThen (f .width)
+    (halfThen (f .height)
+    (f .ray ∷ f .upsampling ∷ f .blur ∷ f .mode ∷ f .suppression
+    ∷ halfThen (f .least)
+    (wordThen (f .threshold) pixels))))
 
 -- the header with these numbers, where the mode's stands for `fit`
 abbrev pub headerWith : Fields → PeakFitMode → Header
@@ -81,7 +88,8 @@ words n = omega arith
 half-bytes : (n : ℕ) → n < 65536 → (n / 256 < 256) × (n % 256 < 256)
 half-bytes n h = omega arith
 
-word-bytes : (n : ℕ) → n < 4294967296 → (n / 16777216 < 256) × (n / 65536 % 256 < 256) × (n / 256 % 256 < 256) × (n % 256 < 256)
+word-bytes : (n : ℕ) → n < 4294967296
+    → (n / 16777216 < 256) × (n / 65536 % 256 < 256) × (n / 256 % 256 < 256) × (n % 256 < 256)
 word-bytes n h = omega arith
 
 pub good-file-taken : (limit : ℕ) (f : Fields) (fit : PeakFitMode) (pixels : List ℕ)
@@ -182,7 +190,9 @@ opened (suc k) at file = byteAt file at ∷ opened k (suc at) file
 
 opened-is : (k at : ℕ) (file : List ℕ) → at + k ≤ length file → drop at file ≡ opened k at file
 opened-is zero at file h = refl
-opened-is (suc k) at file h = drop-cons file at 0 (omega arith) ∙ ap (λ (l : List ℕ). byteAt file at ∷ l) (opened-is k (suc at) file (omega arith))
+opened-is (suc k) at file h =
+    drop-cons file at 0 (omega arith)
+    ∙ ap (λ (l : List ℕ). byteAt file at ∷ l) (opened-is k (suc at) file (omega arith))
 
 byte-below : (file : List ℕ) → Bytes file → (i : ℕ) → byteAt file i < 256
 byte-below [] b i = lit< tt

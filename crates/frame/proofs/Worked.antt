@@ -1,25 +1,12 @@
--- Printed lines, computed from the definitions: document 01's frame, a refusal, a full list, and floats that are easy to
--- get wrong. Assumes nothing.
+-- Printed lines, computed from the definitions: document 01's frame, a refusal, a full list, and floats that are easy
+-- to get wrong. Assumes nothing.
 use mathlib.Core.Path.{_≡_, refl}
 use mathlib.Core.List.{List, [], _∷_}
 use lib.Ieee.{Float, nan, binary32, ofBits, toBits, ofFields, odd, size}
 use Rattle.params.specs.declared.answers.Answer.the-variants.{Complete, ListFull, StatedLength}
 use Rattle.params.specs.Answers.{refused}
-use Rattle.frame.specs.Printed.{
-  ascii,
-  digitsIn,
-  digits,
-  numeral,
-  decimal,
-  word,
-  row,
-  refusedLine,
-  firstLine,
-  cornerLine,
-  cornerLines,
-  fullLine,
-  printed,
-}
+use Rattle.frame.specs.Printed.{ascii, digitsIn, digits, numeral, decimal, word, row, refusedLine, firstLine}
+use Rattle.frame.specs.Printed.{cornerLine, cornerLines, fullLine, printed}
 
 abbrev corner : List Float
 corner = ofBits binary32 0x4040_0000 ∷ ofBits binary32 0x4040_0000 ∷ ofBits binary32 0x481c_4000 ∷ []

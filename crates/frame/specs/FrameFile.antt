@@ -1,4 +1,5 @@
--- Document 01, "Frame file and printed list": which frame files are taken, what their bytes mean, and which answer all others get.
+-- Document 01, "Frame file and printed list": which frame files are taken, what their bytes mean, and which answer all
+-- others get.
 use mathlib.Core.Path.{_≡_}
 use mathlib.Core.Bool.{not, cond}
 use mathlib.Core.List.{List}
@@ -26,8 +27,8 @@ halfAt file at = byteAt file at * 256 + byteAt file (at + 1)
 abbrev pub wordAt : List ℕ → ℕ → ℕ
 wordAt file at = halfAt file at * 65536 + halfAt file (at + 2)
 
--- "Byte 0: version 1. Bytes 1 to 4: number of bytes that follow them. Then width, height (2 each), ray, upsampling, blur,
--- mode, suppression (1 each), least count (2), threshold bits (4), pixels"
+-- "Byte 0: version 1. Bytes 1 to 4: number of bytes that follow them. Then width, height (2 each), ray, upsampling,
+-- blur, mode, suppression (1 each), least count (2), threshold bits (4), pixels"
 unfoldable pub headerOf : List ℕ → PeakFitMode → Header
 headerOf file mode = record {
   width = halfAt file 5;
@@ -62,8 +63,8 @@ readOf limit file =
     (cond (ltb (length file) 20) (Refused FileTooShort)
     (headerRead file))
 
--- "The pixel part of a file is read where it stands": r is what follows the 20 bytes of the fields, and it is that part of
--- the file itself, from byte 20 on. A shorter file has no pixels: r is the empty part at its end.
+-- "The pixel part of a file is read where it stands": r is what follows the 20 bytes of the fields, and it is that part
+-- of the file itself, from byte 20 on. A shorter file has no pixels: r is the empty part at its end.
 pub record Pixels (file r : RefT (List ℕ)) : Type 0 where
   pub values : now r ≡ drop 20 (now file)
   pub itself : ptr r ≡ (ptr file .0, min 20 (length (now file)) + ptr file .1)

@@ -16,8 +16,8 @@ pub record Shows (text : List ℕ) (line : Line) : Type 0 where
   pub is : line ≡ lineOf text
   pub fits : line .len ≤ length (line .bytes)
 
--- a numeral of at most 20 digits, as many as a machine number has in decimal: three of them, each with a byte behind it, fit
--- a line
+-- a numeral of at most 20 digits, as many as a machine number has in decimal: three of them, each with a byte behind it,
+-- fit a line
 pub record Short (base least n : ℕ) : Type 0 where
   pub two : 2 ≤ base
   pub most : base ≤ 16

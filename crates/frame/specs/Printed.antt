@@ -1,5 +1,5 @@
--- Document 01, "Frame file and printed list": what is printed for an outcome and a corner list, line by line, each line as
--- its ASCII bytes.
+-- Document 01, "Frame file and printed list": what is printed for an outcome and a corner list, line by line, each line
+-- as its ASCII bytes.
 use mathlib.Core.Bool.{Bool, true, false, _&&_, cond}
 use mathlib.Core.List.{List, [], _∷_, _++_, map}
 use Prim.Native.Nat.{ℕ, zero, suc, _+_, _-_, _/_, _%_, min}
@@ -18,9 +18,9 @@ ascii (c ∷ˢ s) = code c ∷ ascii s
 
 -- ---- numerals
 
--- the digits of n in a base, the highest first: `least` of them at least, and no more than n needs. Where n is one digit,
--- that; otherwise the digits of n / base, and then n % base. There are no more than `depth`.
--- (By `elim`, not `cond`, so that the numerals compute: only the branch that is taken is looked at.)
+-- the digits of n in a base, the highest first: `least` of them at least, and no more than n needs. Where n is one
+-- digit, that; otherwise the digits of n / base, and then n % base. There are no more than `depth`. (By `elim`, not by
+-- `cond`, so that the numerals compute: only the branch that is taken is looked at.)
 unfoldable pub digitsIn : ℕ → ℕ → ℕ → ℕ → List ℕ
 digitsIn zero base least n = []
 digitsIn (suc depth) base least n = elim (ltb n base && leb least 1) [

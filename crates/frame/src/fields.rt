@@ -1,4 +1,4 @@
-// The fields of a frame file. A field that can be refused answers its value or which refusal it is; the others are numbers.
+// The fields of a frame file. One that can be refused answers its value or which refusal it is; the others are numbers.
 use params::Answer;
 use params::NumberedMode;
 use params::PeakFitMode;

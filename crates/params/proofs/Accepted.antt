@@ -12,18 +12,8 @@ use Rattle.params.specs.declared.answers.Answer.{Answer}
 use Rattle.params.specs.declared.answers.Answer.the-variants.{Complete}
 use Rattle.params.specs.declared.settings.RadonDetectorParams.{RadonDetectorParams}
 use Rattle.params.specs.Answers.{numberOf}
-use Rattle.params.specs.Refusals.{
-  orElse,
-  sideOver,
-  pixelsOf,
-  sizeRefusal,
-  mapRefusal,
-  listRefusal,
-  roomRefusal,
-  stagesOf,
-  refusalOf,
-  mapRefusalOf,
-}
+use Rattle.params.specs.Refusals.{orElse, sideOver, pixelsOf, sizeRefusal, mapRefusal, listRefusal, roomRefusal}
+use Rattle.params.specs.Refusals.{stagesOf, refusalOf, mapRefusalOf}
 
 pub record SizesPass (width height image up : ℕ) : Type 0 where
   pub wide : width ≤ 4096

@@ -1,5 +1,5 @@
--- A step of a chain of refusals: its test holds and its answer is given, or it fails and the rest decides: `search chain`
--- walks a whole chain. Assumes nothing.
+-- A step of a chain of refusals: its test holds and its answer is given, or it fails and the rest decides. `search
+-- chain` walks a whole chain. Assumes nothing.
 use mathlib.Core.Path.{_≡_, refl, sym, _∙_}
 use mathlib.Core.Bool.{Bool, true, false, not, _||_, cond, or-true}
 use Prim.Native.Nat.{_*_}

@@ -1,5 +1,5 @@
--- What the saddle test fixes for each ray radius, worked out from its definition: mean square distance and three inverse norms, as
--- patterns. Assumes nothing.
+-- What the saddle test fixes for each ray radius, worked out from its definition: mean
+-- square distance and three inverse norms, as patterns. Assumes nothing.
 use mathlib.Core.Path.{_≡_, refl}
 use mathlib.Core.List.{List, [], _∷_}
 use Prim.Native.Nat.{ℕ}

@@ -1,4 +1,5 @@
 -- What the finder promises: document 01's table of answers, the map and the list put together, in one answer and one equation of all eight buffers.
+use mathlib.Core.Bool.{cond}
 use mathlib.Core.List.{List}
 use Prim.Native.Nat.{ℕ, _/_, _<_}
 use lib.ListN.{length, getD}
@@ -11,7 +12,7 @@ use Rattle.params.specs.declared.answers.Answer.{Answer}
 use Rattle.params.specs.declared.answers.Outcome.{Outcome}
 use Rattle.params.specs.Answers.{refused}
 use Rattle.params.specs.Refusals.{refusalOf}
-use Rattle.response.specs.Map.{Buffers as MapBuffers, mapLent, roomOf, sideOf, workOf, mapOf, mapped, accepts, chosen}
+use Rattle.response.specs.Map.{Buffers as MapBuffers, mapLent, roomOf, sideOf, workOf, mapOf, mapped, accepts}
 use Rattle.detect.specs.Corners.{corners, numbers, stride}
 use Rattle.detect.specs.Detected.{fullOr}
 
@@ -39,7 +40,7 @@ found f w h p = corners p (sideOf w p) (sideOf h p) (mapOf f w h p) (workOf f w 
 -- 0 or 1 with what was found, W and H; or a refusal with zeros
 unfoldable pub outcomeOf : List ℕ → ℕ → ℕ → RadonDetectorParams → Buffers → Outcome
 outcomeOf img w h p b =
-    chosen (accepts (answered img w h p b))
+    cond (accepts (answered img w h p b))
     (record {
       answer = fullOr (length (found (pixel img w) w h p)) (length (b .list) / stride);
       count = length (found (pixel img w) w h p);
@@ -51,7 +52,7 @@ outcomeOf img w h p b =
 -- the map's buffers as the map has them, and "the list gets as many whole corners as fit. Entries beyond stay"; with a refusal "no buffer changes"
 unfoldable pub buffersOf : List ℕ → ℕ → ℕ → RadonDetectorParams → Buffers → Buffers
 buffersOf img w h p b =
-    chosen (accepts (answered img w h p b))
+    cond (accepts (answered img w h p b))
     (record {
       map = mapped (pixel img w) w h p (b .map);
       list = written stride (numbers p (mapOf (pixel img w) w h p)) (found (pixel img w) w h p) (b .list);

@@ -1,5 +1,5 @@
 -- What fitting takes and what it gives, for the callers of `ray_response`. Assumes nothing.
-use mathlib.Core.Path.{_≡_, refl, sym, ap, _∙_}
+use mathlib.Core.Path.{_≡_, ap, _∙_}
 use mathlib.Core.Bool.{Bool, true, false, cond}
 use mathlib.Core.List.{List}
 use Prim.Native.Nat.{ℕ, _*_, _≤_, _<_, min}
@@ -12,7 +12,7 @@ use Rattle.grid.specs.Fill.{filled}
 use Rattle.grid.specs.Plane.{plane}
 use Rattle.grid.specs.Ways.{along, down, fall, rise}
 use Rattle.sizes.specs.Fits.{fitsIn}
-use Rattle.sizes.proofs.Fitting.{both-true, true-both, Fitting, fitting, fits-so}
+use Rattle.sizes.proofs.Fitting.{both-true, true-both, fitting, fits-so}
 use Rattle.rays.specs.Tables.{tableOf}
 use Rattle.rays.specs.Response.{responseAt}
 use Rattle.rays.specs.Lent.{Lent, tabled, roomOf, raysOf, raysFit}

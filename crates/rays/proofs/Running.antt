@@ -1,5 +1,5 @@
 -- Laws of the passes that fill the tables, over the way: what a run of entries adds to a row, and a row to the rows above. Assumes nothing.
-use mathlib.Core.Path.{_≡_, refl, sym, ap, _∙_}
+use mathlib.Core.Path.{_≡_, refl, ap, _∙_}
 use mathlib.Core.List.{List}
 use Prim.Native.Nat.{ℕ, _+_, _-_, _*_, _≤_, _<_}
 use native.Mathlib.Nat.{mul-comm, zero-mul}
@@ -118,7 +118,7 @@ module _ {d : Diagonal} (e : d ≡ Falling) (img : List ℕ) (w y : ℕ) (xs : L
         least = omega arith;
         apart = omega arith;
         image = a .image;
-        room = omega (arith, a .room, fall-begun .long);
+        room = omega (arith, a .room, fall-begun .steps .long);
         small = λ k l m. row-fits fall img w y xs fall-begun fall-above small k (omega arith);
       }
 

@@ -1,5 +1,5 @@
 -- The image that the tables show is the image that they are of, and the eight entries about a pixel give its rays. Assumes nothing.
-use mathlib.Core.Path.{_≡_, refl, sym, ap, _∙_}
+use mathlib.Core.Path.{_≡_, refl, sym, _∙_}
 use mathlib.Core.Bool.{cond}
 use mathlib.Core.List.{List}
 use Prim.Native.Nat.{ℕ, zero, suc, _+_, _-_, _*_, _≤_, _<_, min}
@@ -20,7 +20,7 @@ use Rattle.grid.specs.Ways.{Entry, Reach, Inside, Deep, upTo}
 use Rattle.grid.proofs.Ways.{none-past, holds-at, endx, endy, lowx, lowy}
 use Rattle.rays.specs.Tables.{tableAt, tableOf}
 use Rattle.rays.specs.Response.{responseAt}
-use Rattle.rays.specs.Shown.{shown, entryAt, Between, Tables}
+use Rattle.rays.specs.Shown.{shown, entryAt, Between, Held}
 use Rattle.rays.proofs.Summed.{table-run, table-filled}
 use Rattle.rays.proofs.Inner.{response-ext}
 
@@ -56,7 +56,7 @@ module _ {f : ℕ → ℕ → ℕ} {w h : ℕ} where
   module _ {row₀ row : List ℕ} (p : Built along f w h row₀ row) where
     pub tables-of : {col₀ col falling₀ falling rising₀ rising : List ℕ} → Built down f w h col₀ col
         → Built fall f w h falling₀ falling → Built rise f w h rising₀ rising
-        → w ≤ 8192 → h ≤ 8192 → ((x y : ℕ) → f x y ≤ 4095) → Tables w h row col falling rising
+        → w ≤ 8192 → h ≤ 8192 → ((x y : ℕ) → f x y ≤ 4095) → Held w h row col falling rising
     tables-of q s t u v m =
         let same : (x y : ℕ) → x < w → y < h → f x y ≡ shown row w x y = λ x y a b. sym (shown-is (table-holds p) x y a b) in
         record {
@@ -80,7 +80,7 @@ module _ {f : ℕ → ℕ → ℕ} {w h : ℕ} where
 
 -- ---- the rays
 
-module _ {w h : ℕ} {row col falling rising : List ℕ} (t : Tables w h row col falling rising) where
+module _ {w h : ℕ} {row col falling rising : List ℕ} (t : Held w h row col falling rising) where
   -- a ray of at most 15 pixels
   pub ray-small : {r x y : ℕ} (d : Way) → r ≤ 7 → Inside w h r x y → ray d (shown row w) r x y ≤ 61425
   ray-small {r} {x} {y} d b m =
@@ -109,6 +109,11 @@ entry-at t w h x y l = record { is = λ d f s r. at d f s r (decLt 0 x) (decLt 0
 pub record EdgeRay (d : Way) (f : ℕ → ℕ → ℕ) (t : List ℕ) (w r x y : ℕ) : Type 0 where
   pub reads : Between t w (lowx d x r) (lowy d y r) (endx d x r + 1) (endy d y r + 1)
   pub is : entryAt t w (endx d x r + 1) (endy d y r + 1) - entryAt t w (lowx d x r) (lowy d y r) ≡ ray d f r x y
+
+-- what is read is the ray
+pub ray-read : {d : Way} {f : ℕ → ℕ → ℕ} {t : List ℕ} {w r x y v : ℕ} → EdgeRay d f t w r x y
+    → v ≡ entryAt t w (endx d x r + 1) (endy d y r + 1) - entryAt t w (lowx d x r) (lowy d y r) → v ≡ ray d f r x y
+ray-read e q = q ∙ e .is
 
 pub edge-ray : (d : Way) {f : ℕ → ℕ → ℕ} {w h r x y : ℕ} {t : List ℕ} → Holds d f w h t → Inside w h r x y → w ≤ 8192
     → h ≤ 8192 → w * h ≤ length t
@@ -143,7 +148,7 @@ pub record DeepRays (w r x y : ℕ) (row col falling rising : List ℕ) : Type 0
   pub on-rising : (getD rising ((y - r - 1) * w + x + r + 1) 0 ≤ getD rising ((y + r) * w + x - r) 0)
       × (getD rising ((y + r) * w + x - r) 0 - getD rising ((y - r - 1) * w + x + r + 1) 0 ≡ ray rise (shown row w) r x y)
 
-pub deep-rays : {w h r x y : ℕ} {row col falling rising : List ℕ} → Tables w h row col falling rising → Deep w h r x y
+pub deep-rays : {w h r x y : ℕ} {row col falling rising : List ℕ} → Held w h row col falling rising → Deep w h r x y
     → DeepRays w r x y row col falling rising
 deep-rays t m = record {
   on-row = ray-deep along (t .rows) m (omega arith) (omega arith);

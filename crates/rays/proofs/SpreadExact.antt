@@ -1,9 +1,9 @@
 -- Facts about the response as an f32: the spread is exact for pixels to 4,095, its square is rounded once, and for pixels to 255 not at all.
 -- Assumes nothing.
-use mathlib.Core.Path.{_≡_, refl, sym, ap, _∙_}
+use mathlib.Core.Path.{_≡_, refl, ap, _∙_}
 use mathlib.Core.Logic.{_⊎_, inl, inr}
 use mathlib.Core.Bool.{Bool, true, false, cond}
-use Prim.Native.Nat.{ℕ, _+_, _-_, _*_, _^_, _≤_, _<_}
+use Prim.Native.Nat.{ℕ, _+_, _-_, _*_, _^_, _≤_}
 use native.Mathlib.Nat.{le-trans, max-le, sub-le, mul-le-mul, mul-pos, eq-zero-or-pos}
 use native.Mathlib.Omega.{arith}
 use lib.Dec.{lit≤}

@@ -15,7 +15,7 @@ shown row w zero y = getD row (y * w + zero) 0
 shown row w (suc x) y = getD row (y * w + suc x) 0 - getD row (y * w + x) 0
 
 -- the tables of one image, whose pixels are at most 4,095
-pub record Tables (w h : ℕ) (row col falling rising : List ℕ) : Type 0 where
+pub record Held (w h : ℕ) (row col falling rising : List ℕ) : Type 0 where
   pub wide : w ≤ 8192
   pub high : h ≤ 8192
   pub row-long : w * h ≤ length row
@@ -47,4 +47,4 @@ readAt row at x = responseAt (shown row (at .w)) (at .w) (at .h) (at .r) x (at .
 pub record Readable (at : ImageRow) (row col falling rising : List ℕ) : Type 0 where
   pub short : at .r ≤ 7
   pub low : at .y < at .h
-  pub tables : Tables (at .w) (at .h) row col falling rising
+  pub tables : Held (at .w) (at .h) row col falling rising

@@ -6,7 +6,7 @@ ghost use Rattle.grid.specs.Fill.{filled};
 ghost use Rattle.grid.specs.Plane.{plane};
 ghost use Rattle.grid.specs.Ways.{Inside, Deep};
 ghost use Rattle.rays.specs.Response.{spread, square, responseAt};
-ghost use Rattle.rays.specs.Shown.{shown, Tables, entryAt, Between, readAt, Readable};
+ghost use Rattle.rays.specs.Shown.{shown, Held, entryAt, Between, readAt, Readable};
 
 // The sides of an image, and the radius of its rays.
 pub struct Size {
@@ -263,7 +263,7 @@ pub fn compute_response(
 )
     requires { ⌜
         (size .r ≤ 7) × (size .w * size .h ≤ length (now out))
-        × Tables (size .w) (size .h) (now row) (now col) (now falling) (now rising)
+        × Held (size .w) (size .h) (now row) (now col) (now falling) (now rising)
         ⌝ }
     ensures { λ _. ⌜ now (out .exit)
         ≡ filled (size .w * size .h)

@@ -3,6 +3,7 @@ use mathlib.Core.Path.{_≡_}
 use mathlib.Core.Bool.{cond, _&&_}
 use mathlib.Core.List.{List, [], _∷_}
 use Prim.Native.Nat.{ℕ, suc, _+_, _-_, _*_, min}
+use Prim.Native.Char.{code}
 use denote.Ref.{RefT, now, ptr}
 use lib.Dec.{leb, ltb, eqb}
 use lib.Ieee.{Float, nan, binary32, ofBits, toBits}
@@ -44,7 +45,7 @@ behindOf s at = min (min (at + 4) (length s) + wordAt s at) (length s)
 -- the place after the first line feed, or the end
 unfoldable pub afterLine : List ℕ → ℕ
 afterLine [] = 0
-afterLine (b ∷ s) = cond (eqb b 10) 1 (suc (afterLine s))
+afterLine (b ∷ s) = cond (eqb b (code "\n")) 1 (suc (afterLine s))
 
 -- the float of a pattern, and a NaN of no word
 abbrev pub floatOf : ℕ → Float

@@ -14,6 +14,7 @@ use Rattle.grid.proofs.Plane.{plane-ext, getD-plane, pixel-in}
 use Rattle.grid.specs.Ways.{Way, along, down, fall, rise, pixel}
 use Rattle.grid.proofs.Ways.{run-ext}
 use Rattle.upsample.specs.Upsample.{workAt, upFits}
+use Rattle.upsample.specs.Fitting.{FittingImage}
 use Rattle.upsample.proofs.Fits.{up-plain}
 use Rattle.rays.specs.Tables.{tableOf}
 use Rattle.rays.specs.Response.{responseAt}
@@ -23,6 +24,7 @@ use Rattle.rays.proofs.Summed.{table-filled}
 use Rattle.rays.proofs.Inner.{response-ext}
 use Rattle.blur.specs.Blur.{valueAt, blurAt, scratched, blurFits}
 use Rattle.blur.proofs.BlurLaws.{blurAt-ext, scratched-ext}
+use Rattle.blur.specs.Fitting.{FittingMaps}
 use Rattle.blur.proofs.Fits.{blur-plain}
 use Rattle.response.specs.Map.{Buffers, mapLent, rawAt, mapAt, mappedBy}
 use Rattle.response.proofs.Runs.{Runs, side-most}
@@ -120,10 +122,11 @@ module _ {factor ray blur w h image : ℕ} {b : Buffers} (runs : Runs factor ray
       → mapLent working row col falling rising last scratch ≡ mappedBy factor ray blur (pixel img w) w h b
   unfolding raysOf
   composed {working} {row} {col} {falling} {rising} {first} e t m s =
-      let image = record { one = runs .some; two = runs .two; wide = runs .wide; high = runs .high; inside = le-of-eq (sym (runs .whole) ∙ sym whole) } in
+      let image : FittingImage factor w h (length img) = record { one = runs .some; two = runs .two; wide = runs .wide; high = runs .high; inside = le-of-eq (sym (runs .whole) ∙ sym whole) } in
       let up = up-plain (b .working) (record { image = image; within = runs .working-room }) e in
       let long : length working ≡ length (b .working) = length-fill _ _ (b .working) up in
-      let fit = record {
+      let lent = tabled (b .row) (b .col) (b .falling) (b .rising) (b .response) in
+      let fit : Fitted (factor * w) (factor * h) ray (length working) lent = record {
         short = runs .ray-most;
         wide = wide;
         high = high;
@@ -136,5 +139,5 @@ module _ {factor ray blur w h image : ℕ} {b : Buffers} (runs : Runs factor ray
       } in
       let rays = rays-plain _ _ _ _ _ (pixel working (factor * w)) fit t in
       let room : length first ≡ length (b .response) = length-fill _ _ (b .response) (λ i. rays i .response) in
-      let maps = record { few = runs .blur-most; wide = wide; high = high; source = omega (arith, runs .response-room, room); target = runs .scratch-room } in
+      let maps : FittingMaps (factor * w) (factor * h) blur (length first) (length (b .scratch)) = record { few = runs .blur-most; wide = wide; high = high; source = omega (arith, runs .response-room, room); target = runs .scratch-room } in
       left factor ray blur (pixel img w) w h b (runs .working-room) (runs .response-room) up rays (blur-plain first maps m) (blur-plain (b .scratch) maps s)

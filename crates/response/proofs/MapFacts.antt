@@ -90,5 +90,5 @@ same-written factor ray blur f w h image b c p q =
       falling = written-same n _ (b .falling) (c .falling) (p .falling-room) (q .falling-room);
       rising = written-same n _ (b .rising) (c .rising) (p .rising-room) (q .rising-room);
       response = written-same n _ (b .response) (c .response) (p .response-room) (q .response-room);
-      scratch = same-scratch (rawAt factor ray f w h) (factor * w) (factor * h) (b .scratch) blur (c .scratch) (p .scratch-room) (q .scratch-room);
+      scratch = same-scratch (rawAt factor ray f w h) (factor * w) (factor * h) blur (b .scratch) (c .scratch) (p .scratch-room) (q .scratch-room);
     }

@@ -1,6 +1,5 @@
--- The error law: the f32 that `logOf` gives is within 2 ^ -19 of L, for any number of terms and any upper end that leave room
--- (`near`), and at most 32 in size
--- (`at-most-32`). Assumes nothing.
+-- The error law: the f32 that `logOf` gives is within 2 ^ -19 of L, for any number of terms and any upper
+-- end that leave room (`near`), and at most 32 in size (`at-most-32`). Assumes nothing.
 use mathlib.Core.Path.{_≡_, refl, sym, ap, _∙_, subst}
 use mathlib.Core.Bool.{Bool, true, false, not, cond, _&&_}
 use Prim.Native.Nat.{ℕ, _+_, _-_, _*_, _/_, _%_, _^_, _≤_, _<_}
@@ -114,48 +113,46 @@ both-sides : (v y x d : ℕ) → v * 524288 + y * 1048576 ≤ x * 1048576 + d �
     → distance (v + 2 * y) (2 * x) * 2 ^ 19 ≤ d
 both-sides v y x d above below = omega arith
 
+-- and back: the distance says no less
+pub two-sides : (v y x d : ℕ) → distance (v + 2 * y) (2 * x) * 2 ^ 19 ≤ d
+    → (v * 524288 + y * 1048576 ≤ x * 1048576 + d) × (x * 1048576 ≤ v * 524288 + y * 1048576 + d)
+two-sides v y x d near = (omega arith, omega arith)
+
 module _ (v c x y d : ℕ) (c-positive : 0 < c) (up-to : v * d * 2 ^ 19 + y * c * 2 ^ 20 ≤ x * c * 2 ^ 20 + d * c)
     (from : x * c * 2 ^ 20 ≤ v * d * 2 ^ 19 + y * c * 2 ^ 20 + d * c) where
   -- U / W is the size of the float
-  close-of : (U W : ℕ) → U * c ≡ v * W → Close U W x y d
-  close-of U W h =
-      let same : U * d * 524288 * c ≡ v * d * 524288 * W =
+  module _ (U W : ℕ) (h : U * c ≡ v * W) where
+    -- what both sides regroup
+    same : (U * d * 524288 * c ≡ v * d * 524288 * W) × (y * W * 1048576 * c ≡ y * c * 1048576 * W)
+        × (x * W * 1048576 * c ≡ x * c * 1048576 * W) × (d * W * c ≡ d * c * W)
+        × ((U * d * 524288 + y * W * 1048576) * c ≡ U * d * 524288 * c + y * W * 1048576 * c)
+        × ((v * d * 524288 + y * c * 1048576) * W ≡ v * d * 524288 * W + y * c * 1048576 * W)
+    same = (
       mul-right-comm (U * d) 524288 c
-      ∙ ap (λ (s : ℕ). s * 524288) (mul-right-comm U d c ∙ ap (λ (s : ℕ). s * d) h ∙ mul-right-comm v W d)
-      ∙ mul-right-comm (v * d) W 524288 in
-      let a : (v * d * 524288 + y * c * 1048576) * W ≤ (x * c * 1048576 + d * c) * W = mul-le-mul-right W up-to in
-      let b : x * c * 1048576 * W ≤ (v * d * 524288 + y * c * 1048576 + d * c) * W = mul-le-mul-right W from in
-      let not-above : U * d * 524288 + y * W * 1048576 ≤ x * W * 1048576 + d * W =
-      le-of-mul-le-mul-right {k = c}
-      (omega (
-        arith,
-        a,
-        same,
-        swap y W 1048576 c,
-        swap x W 1048576 c,
-        mul-right-comm d W c,
-        add-mul (U * d * 524288) (y * W * 1048576) c,
-        add-mul (x * W * 1048576) (d * W) c,
-        add-mul (v * d * 524288) (y * c * 1048576) W,
-        add-mul (x * c * 1048576) (d * c) W,
-      ))
-      c-positive in
-      let not-below : x * W * 1048576 ≤ U * d * 524288 + y * W * 1048576 + d * W =
-      le-of-mul-le-mul-right {k = c}
-      (omega (
-        arith,
-        b,
-        same,
-        swap y W 1048576 c,
-        swap x W 1048576 c,
-        mul-right-comm d W c,
-        add-mul (U * d * 524288 + y * W * 1048576) (d * W) c,
-        add-mul (U * d * 524288) (y * W * 1048576) c,
-        add-mul (v * d * 524288 + y * c * 1048576) (d * c) W,
-        add-mul (v * d * 524288) (y * c * 1048576) W,
-      ))
-      c-positive in
-      both-sides (U * d) (y * W) (x * W) (d * W) not-above not-below
+          ∙ ap (λ (s : ℕ). s * 524288) (mul-right-comm U d c ∙ ap (λ (s : ℕ). s * d) h ∙ mul-right-comm v W d)
+          ∙ mul-right-comm (v * d) W 524288,
+      swap y W 1048576 c,
+      swap x W 1048576 c,
+      mul-right-comm d W c,
+      add-mul (U * d * 524288) (y * W * 1048576) c,
+      add-mul (v * d * 524288) (y * c * 1048576) W,
+    )
+
+    not-above : U * d * 524288 + y * W * 1048576 ≤ x * W * 1048576 + d * W
+    not-above =
+        let a : (v * d * 524288 + y * c * 1048576) * W ≤ (x * c * 1048576 + d * c) * W = mul-le-mul-right W up-to in
+        le-of-mul-le-mul-right {k = c}
+        (omega (arith, a, same, add-mul (x * W * 1048576) (d * W) c, add-mul (x * c * 1048576) (d * c) W)) c-positive
+
+    not-below : x * W * 1048576 ≤ U * d * 524288 + y * W * 1048576 + d * W
+    not-below =
+        let sum = U * d * 524288 + y * W * 1048576 in
+        let b : x * c * 1048576 * W ≤ (v * d * 524288 + y * c * 1048576 + d * c) * W = mul-le-mul-right W from in
+        le-of-mul-le-mul-right {k = c}
+        (omega (arith, b, same, add-mul sum (d * W) c, add-mul (v * d * 524288 + y * c * 1048576) (d * c) W)) c-positive
+
+    close-of : Close U W x y d
+    close-of = both-sides (U * d) (y * W) (x * W) (d * W) not-above not-below
 
   within : (r : Float) → HasValue r false v c → Within r x y d × Within (neg r) y x d
   unfolding neg
@@ -178,26 +175,19 @@ module _ (a c x y d g h P v : ℕ) (a-low : a * d ≤ unit * x) (a-high : unit *
   swapped : (s : ℕ) → s * P * d ≡ s * (d * P)
   swapped s = mul-assoc s P d ∙ ap (λ (t : ℕ). s * t) (mul-comm P d)
 
+  -- what both sides regroup
+  regrouped : ((a - c) * (d * P) + c * (d * P) ≡ a * (d * P)) × (unit * x * P ≡ unit * (x * P)) × (unit * y * P ≡ unit * (y * P))
+      × (x * P * 134217728 ≡ x * (P * 134217728)) × (y * P * 134217728 ≡ y * (P * 134217728)) × (d * P * 134217728 ≡ d * (P * 134217728))
+  regrouped =
+      (apart, mul-assoc unit x P, mul-assoc unit y P, mul-assoc x P 134217728, mul-assoc y P 134217728, mul-assoc d P 134217728)
+
   up-to : v * d * 2 ^ 19 + y * (P * 134217728) * 2 ^ 20 ≤ x * (P * 134217728) * 2 ^ 20 + d * (P * 134217728)
   up-to =
       let V1 : v * d ≤ (a - c + 128) * P * d = mul-le-mul-right d v-most in
       let X1 : a * d * P ≤ unit * x * P = mul-le-mul-right P a-low in
       let Y1 : unit * y * P ≤ (c + h) * d * P = mul-le-mul-right P c-high in
       let H1 : h * (d * P) ≤ 128 * (d * P) = mul-le-mul-right (d * P) h-small in
-      omega (
-        arith,
-        swapped (a - c + 128),
-        add-mul (a - c) 128 (d * P),
-        apart,
-        mul-assoc a d P,
-        mul-assoc unit x P,
-        mul-assoc unit y P,
-        mul-assoc (c + h) d P,
-        add-mul c h (d * P),
-        mul-assoc x P 134217728,
-        mul-assoc y P 134217728,
-        mul-assoc d P 134217728,
-      )
+      omega (arith, swapped (a - c + 128), add-mul (a - c) 128 (d * P), mul-assoc a d P, mul-assoc (c + h) d P, add-mul c h (d * P), regrouped)
 
   from : x * (P * 134217728) * 2 ^ 20 ≤ v * d * 2 ^ 19 + y * (P * 134217728) * 2 ^ 20 + d * (P * 134217728)
   from =
@@ -205,21 +195,7 @@ module _ (a c x y d g h P v : ℕ) (a-low : a * d ≤ unit * x) (a-high : unit *
       let X1 : unit * x * P ≤ (a + g) * d * P = mul-le-mul-right P a-high in
       let Y1 : c * d * P ≤ unit * y * P = mul-le-mul-right P c-low in
       let G1 : g * (d * P) ≤ 128 * (d * P) = mul-le-mul-right (d * P) g-small in
-      omega (
-        arith,
-        swapped (a - c),
-        add-mul v (128 * P) d,
-        swapped 128,
-        apart,
-        mul-assoc c d P,
-        mul-assoc unit x P,
-        mul-assoc unit y P,
-        mul-assoc (a + g) d P,
-        add-mul a g (d * P),
-        mul-assoc x P 134217728,
-        mul-assoc y P 134217728,
-        mul-assoc d P 134217728,
-      )
+      omega (arith, swapped (a - c), add-mul v (128 * P) d, swapped 128, mul-assoc c d P, mul-assoc (a + g) d P, add-mul a g (d * P), regrouped)
 
 -- the float of a - c units, and its negative
 module _ (a c x y d g h : ℕ) (a-low : a * d ≤ unit * x) (a-high : unit * x ≤ (a + g) * d) (c-low : c * d ≤ unit * y)

@@ -1,6 +1,5 @@
--- Patterns in order: a larger pattern is worth more (`val-lt`, `val-mono`); what exponent and significand are worth (`val-at`);
--- that IEEE 754 gives a pattern
--- the same worth (`val-is`); and which values have a pattern below infinity's (`from-zero`, `not-from-zero`). Assumes nothing.
+-- Patterns in order: a larger pattern is worth more (`val-lt`, `val-mono`); what exponent and significand are worth (`val-at`); that IEEE 754
+-- gives a pattern the same worth (`val-is`); and which values have a pattern below infinity's (`from-zero`, `not-from-zero`). Assumes nothing.
 use mathlib.Core.Path.{_≡_, refl, sym, ap, _∙_, subst}
 use mathlib.Core.Logic.{inl, inr}
 use mathlib.Core.Bool.{Bool, true, false, not, cond}

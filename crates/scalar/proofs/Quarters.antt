@@ -1,6 +1,5 @@
--- A pattern's number scaled by a power of 4 (`Scales`): by the subnormal loop's steps, and at once for a normal number. Every
--- number above 0 has such a scaling,
--- and that a rounded root (`scaling`, `rounded`). Assumes nothing.
+-- A pattern's number scaled by a power of 4 (`Scales`): by the subnormal loop's steps, and at once for a normal number.
+-- Every number above 0 has such a scaling, and that a rounded root (`scaling`, `rounded`). Assumes nothing.
 use mathlib.Core.Path.{_≡_, refl, sym, ap, _∙_, subst}
 use Prim.Native.Nat.{ℕ, zero, suc, _+_, _-_, _*_, _/_, _%_, _^_, _≤_, _<_}
 use native.Mathlib.Nat.{le-trans, le-of-eq, lt-of-le-of-lt, lt-of-not-le, mul-le-mul-right, mul-comm, mul-assoc, add-comm}

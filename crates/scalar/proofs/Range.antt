@@ -1,5 +1,5 @@
--- A value of binary32 from 2 ^ -6 to 2 ^ H has a pattern from `leastBits` to `mostBits H` (`in-range`), and what the parts of that
--- pattern are (`parts`).
+-- A value of binary32 from 2 ^ -6 to 2 ^ H has a pattern from `leastBits` to `mostBits H`
+-- (`in-range`), and what the parts of that pattern are (`parts`).
 -- Assumes nothing.
 use mathlib.Core.Path.{_≡_, sym, ap, _∙_, subst}
 use mathlib.Core.Bool.{Bool, true, false, not, _||_, _&&_}

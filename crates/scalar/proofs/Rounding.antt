@@ -1,6 +1,5 @@
--- Half-unit rounding: a fraction rounded to a whole number is within a half of it (`Half`), so the f32 nearest to a whole number
--- below 2 ^ 32 is within 128 of it;
--- and dividing that by 2 ^ 27 is exact (`nearby`). Assumes nothing.
+-- Half-unit rounding: a fraction rounded to a whole number is within a half of it (`Half`), so the f32 nearest to a whole
+-- number below 2 ^ 32 is within 128 of it; and dividing that by 2 ^ 27 is exact (`nearby`). Assumes nothing.
 use mathlib.Core.Path.{_≡_, refl, sym, ap, _∙_, subst}
 use mathlib.Core.Logic.{inl, inr}
 use mathlib.Core.Bool.{Bool, true, false, not}

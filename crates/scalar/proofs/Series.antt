@@ -1,7 +1,6 @@
--- The error of the sums in units, as laws of whole numbers. Every power and every term is cut to a whole number, which loses less
--- than one unit, and what earlier
--- cuts lost shrinks: so a power is at most 2 units below the exact one, a term too, and a sum of N terms at most 2 * N (`sum-low`,
--- `sum-high`). Assumes nothing.
+-- The error of the sums in units, as laws of whole numbers. Every power and every term is cut to a whole number,
+-- which loses less than one unit, and what earlier cuts lost shrinks: so a power is at most 2 units below the exact
+-- one, a term too, and a sum of N terms at most 2 * N (`sum-low`, `sum-high`). Assumes nothing.
 use mathlib.Core.Path.{_≡_, refl, sym, ap, _∙_, subst}
 use Prim.Native.Nat.{ℕ, zero, suc, _+_, _*_, _/_, _%_, _^_, _≤_, _<_}
 use native.Mathlib.Nat.{le-trans, le-of-eq, le-of-lt, lt-of-le-of-lt, mul-pos, mul-le-mul, mul-le-mul-right, mul-comm, mul-assoc}

@@ -1,6 +1,5 @@
--- Laws of squares: a step of Newton's never falls below the whole root (`newton-high`) and goes down from above it (`newton-less`),
--- and a whole root rounds to
--- a nearest one (`rounds-down`, `rounds-up`). Assumes nothing.
+-- Laws of squares: a step of Newton's never falls below the whole root (`newton-high`) and goes down from above it
+-- (`newton-less`), and a whole root rounds to a nearest one (`rounds-down`, `rounds-up`). Assumes nothing.
 use mathlib.Core.Path.{_≡_, subst}
 use Prim.Native.Nat.{ℕ, suc, _+_, _-_, _*_, _/_, _^_, _≤_, _<_}
 use native.Mathlib.Nat.{le-of-lt, lt-of-le-of-lt, lt-of-not-le, not-le-of-lt, lt-suc-self, mul-le-mul, mul-le-mul-left}

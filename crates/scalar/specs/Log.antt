@@ -1,8 +1,8 @@
--- The logarithm: the exact fraction L, the f32 that stands for it, and that the two are within 2 ^ -19. N is the number of terms of
--- the series, 2 ^ H the upper end.
+-- The logarithm: the exact fraction L, the f32 that stands for it, and that the two are
+-- within 2 ^ -19. N is the number of terms of the series, 2 ^ H the upper end.
 use mathlib.Core.Bool.{true, false, cond, _&&_}
 use Prim.Native.Nat.{ℕ, zero, suc, _+_, _-_, _*_, _/_, _%_, _^_, _≤_}
-use lib.IntN.{ℤ, pos, negsuc}
+use lib.IntN.{pos, negsuc}
 use lib.Dec.{leb}
 use lib.Ieee.{Float, nan, inf, fin, up, down, binary32, le, toBits, ofInt, div, neg}
 use Rattle.scalar.specs.declared.Log.{Log}
@@ -30,8 +30,8 @@ unfolding sumBottom
 sumTop zero p q = 0
 sumTop (suc j) p q = sumTop j p q * ((2 * j + 1) * q ^ (2 * j + 1)) + p ^ (2 * j + 1) * sumBottom j q
 
--- Document 01, "For 2^e·m with m from 1 to below 2": of the pattern b of that number, e + 6, and m − 1 and m + 1 both times 2 ^ 23
--- (`parts` of proofs/Range).
+-- Document 01, "For 2^e·m with m from 1 to below 2": of the pattern b of that number,
+-- e + 6, and m − 1 and m + 1 both times 2 ^ 23 (`parts` of proofs/Range).
 abbrev pub doublings : ℕ → ℕ
 doublings b = b / 8388608 - 121
 
@@ -41,8 +41,8 @@ lessOne b = b % 8388608
 abbrev pub moreOne : ℕ → ℕ
 moreOne b = b % 8388608 + 16777216
 
--- Document 01, "L = e·S(1/3) + S((m−1)/(m+1)), as a fraction of whole numbers": L is 2 * (plus - minus) / whole, where `minus`
--- takes the 6 of e + 6 off again.
+-- Document 01, "L = e·S(1/3) + S((m−1)/(m+1)), as a fraction of whole numbers":
+-- L is 2 * (plus - minus) / whole, where `minus` takes the 6 of e + 6 off again.
 unfoldable pub plus : ℕ → ℕ → ℕ
 unfolding sumTop sumBottom
 plus N b =

@@ -1,6 +1,6 @@
--- A function with plain parameters above the view: the response, the image, the width and the height, and then numbers. The view is
--- made of the first four
--- by `new`, of which only its contract is known. A local's type names no lifetime, so a view in a local has the type with the name erased.
+-- A function with plain parameters above the view: the response, the image, the width and the height, and
+-- then numbers. The view is made of the first four by `new`, of which only its contract is known. A local's
+-- type names no lifetime, so a view in a local has the type with the name erased.
 -- Assumes nothing.
 use Prim.Native.Nat.{ℕ}
 use mathlib.Core.List.{List, [], _∷_}

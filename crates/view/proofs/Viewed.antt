@@ -25,7 +25,7 @@ use types.Kit.{Given, Item, mean, ‵, raw, _⊛_, given as knowing, _$_, _∵_,
 use types.Kit.{fsplit, fjoin, frame, done}
 use types.Part.{whole, sub, look-in}
 use types.Run.{look, init, forget, stop, fld, from, load, of-opd, assigns, returns, enter, alloc1, alloc0, params1, pass1, pass0, free1, free0}
-use denote.RattleType.{RattleType, owns}
+use denote.RattleType.{RattleType}
 use denote.Laws.{Is, Tells}
 use denote.Builtin.{u8, f32, usize}
 use denote.Exit.{yes}

@@ -85,8 +85,8 @@ module _ {M : Type 1} (𝓤 : URA M) (H : Heap 𝓤) (A : Atoms 𝓤) (W : Given
       -- [what is had; the ensures; the result; the tokens]
       move ! (0 ∷ 2 ∷ []) $ join ! $ move ! (2 ∷ 0 ∷ []) $ join ! $ frame ! $ done !
 
--- ---- a call has returned u: what the result owns, the tokens in the form in which the walk has them, and what the callee says of
--- last values and ensures
+-- ---- a call has returned u: what the result owns, the tokens in the form in which
+-- the walk has them, and what the callee says of last values and ensures
 
 abbrev pub Result : (T : Ended) → Lfts (T .signature .lifetimes) → RattleType
 Result T κs = typeAt (T .signature .result) κs
@@ -125,9 +125,8 @@ module _ {M : Type 1} {𝓤 : URA M} {H : Heap 𝓤} {A : Atoms 𝓤} {K : Type 
       (λ r ws is. move t (2 ∷ []) $ drop t $ move t (2 ∷ []) $ use1 W (raw (fact 𝓤 (φ r))) (says r ws) $ heard t (φ r)
       (λ f. k r f is))
 
--- ---- from a walk at each choice of lifetimes, shares and arguments to the function's theorem. The walk may lean on the calls that
--- it makes being monotone
--- under a frame
+-- ---- from a walk at each choice of lifetimes, shares and arguments to the function's
+-- theorem. The walk may lean on the calls that it makes being monotone under a frame
 
 module _ {M : Type 1} (𝓤 : URA M) (H : Heap 𝓤) (𝓜 : Model 𝓤 H) (𝓖 : GhostRules 𝓤 H) (𝓡 : Running 𝓤 H 𝓜) (γ : Env) (T : Ended)
     (c : Clauses 𝓤 T) (k : Name) (e : Fn) where

@@ -1,29 +1,22 @@
 -- `frame::line_at` meets its contract: each way out is a line of the printed ones. Assumes nothing.
 use borrow.Author.Needs.{needs}
-use Rattle.frame.proofs.Printing.{
-  Refusal,
-  refused-at,
-  refused-past,
-  Listing,
-  first-at,
-  corner-line,
-  full-at,
-  none-at,
-  past-at,
-  shows-as,
-  shows-nothing,
-}
+use Rattle.frame.proofs.Printing.{Refusal, refused-at, refused-past, Listing, first-at, corner-line, full-at}
+use Rattle.frame.proofs.Printing.{none-at, past-at, shows-as, shows-nothing}
 use Rattle.frame.proofs.line_at.Statement.{statement}
 use Rattle.frame.proofs.line_at.Tie as tie
 
-refusal : (c : tie.Then1) → Refusal (c .before .before .before .args .o) (c .before .number .result)
+refusal : (c : tie.Then1) →
+    let o = c .before .before .before .args .o in
+    Refusal o (c .before .number .result)
 refusal c = record { number = c .before .number .ensures; more = c .if1 .taken }
 
 -- from where the corners are counted back to the start
 abbrev start : tie.After-stored → tie.Start
 start c = c .before .before .before .before
 
-listing : (c : tie.After-stored) → Listing 3 (start c .args .o) (start c .args .list .now) (c .before .before .number .result) (c .stored .result)
+listing : (c : tie.After-stored) →
+    let o = start c .args in
+    Listing 3 (o .o) (o .list .now) (c .before .before .number .result) (c .stored .result)
 listing c = record { number = c .before .before .number .ensures; few = c .before .if1 .left; all = c .stored .ensures }
 
 -- past the first line, back to where the corners are counted
@@ -44,7 +37,8 @@ empty-requires c κs = search needs
 
 returns-2 : tie.Need-returns-2
 returns-2 c =
-    shows-as (shows-nothing (c .empty .ensures)) (refused-past _ _ (refusal (c .before .before)) _ (c .before .if2 .left))
+    shows-as (shows-nothing (c .empty .ensures))
+    (refused-past _ _ (refusal (c .before .before)) _ (c .before .if2 .left))
 
 stored-requires : tie.Need-stored-requires
 stored-requires c κs = search needs

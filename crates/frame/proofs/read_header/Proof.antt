@@ -1,4 +1,4 @@
--- `frame::read_header` meets its contract: the tests in their order, each from what its reader ensures. Assumes nothing.
+-- `frame::read_header` meets its contract: the tests in order, each from what its reader ensures. Assumes nothing.
 use mathlib.Core.List.{List}
 use Prim.Native.Nat.{ℕ}
 use borrow.Author.Needs.{needs}

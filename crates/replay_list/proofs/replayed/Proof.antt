@@ -10,10 +10,6 @@ Inv-loop s walk₀ all₀ walk all = Unit {0}
 abbrev μ-loop : tie.MeasureT-loop
 μ-loop s walk₀ all₀ walk all = walk .left
 
--- from the end of a turn back to its record's count
-abbrev walked : tie.After-then Inv-loop μ-loop → tie.After-after Inv-loop μ-loop
-walked c = c .before
-
 start-requires : tie.Need-start-requires Inv-loop μ-loop
 start-requires c κs = search needs
 
@@ -37,9 +33,8 @@ then-requires c κs = search needs
 
 loop-less : tie.Need-loop-less Inv-loop μ-loop
 loop-less c =
-    let w = walked c in
-    let t = w .before .before in
-    fewer _ _ _ _ _ (t .before .more .ensures) (t .if1 .taken) (w .after .ensures)
+    let w = c .before in
+    fewer _ _ _ _ _ (w .before .before .before .more .ensures) (w .before .before .if1 .taken) (w .after .ensures)
 
 loop-again : tie.Need-loop-again Inv-loop μ-loop
 loop-again c = search needs

@@ -10,7 +10,7 @@ Inv-loop s walk₀ exact₀ lists₀ places₀ walk exact lists places = Unit {0
 abbrev μ-loop : tie.MeasureT-loop
 μ-loop s walk₀ exact₀ lists₀ places₀ walk exact lists places = walk .left
 
--- from the end of a turn back to its record's count
+-- from the end of a turn back to where its record is counted
 abbrev walked : tie.After-plus3 Inv-loop μ-loop → tie.After-after Inv-loop μ-loop
 walked c = c .before .before .before .before .before
 
@@ -47,8 +47,7 @@ plus-requires-3 c κs = search needs
 loop-less : tie.Need-loop-less Inv-loop μ-loop
 loop-less c =
     let w = walked c in
-    let t = w .before .before in
-    fewer _ _ _ _ _ (t .before .more .ensures) (t .if1 .taken) (w .after .ensures)
+    fewer _ _ _ _ _ (w .before .before .before .more .ensures) (w .before .before .if1 .taken) (w .after .ensures)
 
 loop-again : tie.Need-loop-again Inv-loop μ-loop
 loop-again c = search needs

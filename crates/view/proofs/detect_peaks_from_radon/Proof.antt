@@ -1,6 +1,5 @@
--- `view::detect_peaks_from_radon` meets its contract: a walk of its MIR, by hand. The view is taken apart and the function over
--- slices is called, of which only
--- its contract is known. The list is lent on for good: what the callee says of its last entries is what is said here.
+-- `view::detect_peaks_from_radon` meets its contract: a walk of its MIR, by hand. The view is taken apart and the function over slices is
+-- called, of which only its contract is known. The list is lent on for good: what the callee says of its last entries is what is said here.
 -- Assumes nothing.
 use mathlib.Core.Path.{refl}
 use mathlib.Core.List.{List, [], _∷_}

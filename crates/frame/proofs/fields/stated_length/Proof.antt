@@ -1,4 +1,4 @@
--- `frame::fields::stated_length` meets its contract: it is the number of the bytes behind it, or it is refused. Assumes nothing.
+-- `frame::fields::stated_length` meets its contract: so many bytes follow, or it is refused. Assumes nothing.
 use borrow.Author.Needs.{needs}
 use Rattle.params.specs.declared.answers.Answer.the-variants.{StatedLength}
 use Rattle.frame.proofs.Order.{refuses, holds}

@@ -1,4 +1,5 @@
--- The cycle of calls of `frame::text::number`: what is left of the number and of the digits to show gets less. Assumes nothing.
+-- The cycle of calls of `frame::text::number`: what is left of the number and of the digits to show gets less.
+-- Assumes nothing.
 use Prim.Native.Nat.{ℕ, _+_, _<_}
 use native.Mathlib.Omega.{arith}
 use borrow.Author.Needs.{needs}
@@ -42,39 +43,35 @@ claims t = (
 
 module _ (t : ℕ) where
   -- what is known at the start
-  due : (s : lts.Start (claims t) (number-at t) number.Post) → Due (s .args .line) (s .args .base) (s .args .least) (s .args .n) t
+  due : (s : lts.Start (claims t) (number-at t) number.Post) →
+      let o = s .args in
+      Due (o .line) (o .base) (o .least) (o .n) t
   due s = record { measure = s .pre .0; two = s .pre .1 .0; most = s .pre .1 .1; room = s .pre .1 .2 }
 
   single-requires : lts.Need-single-requires (claims t) (number-at t) number.Post
   single-requires c κs = search needs
 
-  -- ---- one digit
-
-  -- the way back to the test
-  abbrev yes : lts.After-digit (claims t) (number-at t) number.Post → lts.Then1 (claims t) (number-at t) number.Post
-  yes c = c .before
+  -- ---- one digit: y is where the test says so, s the test
 
   digit-requires : lts.Need-digit-requires (claims t) (number-at t) number.Post
-  digit-requires c κs = last-digit (due (c .before .before)) (c .before .single .ensures) (c .if1 .taken)
+  digit-requires y κs =
+      let s = y .before in
+      last-digit (due (s .before)) (s .single .ensures) (y .if1 .taken)
 
   push-requires : lts.Need-push-requires (claims t) (number-at t) number.Post
   push-requires c κs =
-      let y = yes c in
-      last-room (due (y .before .before)) (y .before .single .ensures) (y .if1 .taken)
+      let y = c .before in
+      let s = y .before in
+      last-room (due (s .before)) (s .single .ensures) (y .if1 .taken)
 
   returns : lts.Need-returns (claims t) (number-at t) number.Post
   returns c =
-      let y = yes (c .before) in
-      last-is (due (y .before .before)) (y .before .single .ensures) (y .if1 .taken) (c .before .digit .ensures) (c .push .ensures)
+      let d = c .before in
+      let y = d .before in
+      let s = y .before in
+      last-is (due (s .before)) (s .single .ensures) (y .if1 .taken) (d .digit .ensures) (c .push .ensures)
 
-  -- ---- more digits
-
-  -- the way back from the higher digits
-  abbrev no : lts.After-less-one (claims t) (number-at t) number.Post → lts.Else1 (claims t) (number-at t) number.Post
-  no c = c .before
-
-  abbrev less : lts.After-number (claims t) (number-at t) number.Post → lts.After-less-one (claims t) (number-at t) number.Post
-  less c = c .before
+  -- ---- more digits: l is where `less_one` has answered, n where the test says so, s the test
 
   less-one-requires : lts.Need-less-one-requires (claims t) (number-at t) number.Post
   less-one-requires c κs = search needs
@@ -83,9 +80,10 @@ module _ (t : ℕ) where
   div-number c = omega arith
 
   number-requires : lts.Need-number-requires (claims t) (number-at t) number.Post
-  number-requires c κs =
-      let n = no c in
-      let b = before-last (due (n .before .before)) (n .before .single .ensures) (n .if1 .left) (c .less-one .ensures) in
+  number-requires l κs =
+      let n = l .before in
+      let s = n .before in
+      let b = before-last (due (s .before)) (s .single .ensures) (n .if1 .left) (l .less-one .ensures) in
       (b .0, (b .1, b .2, b .3))
 
   rem-digit : lts.Need-rem-digit (claims t) (number-at t) number.Post
@@ -93,23 +91,25 @@ module _ (t : ℕ) where
 
   digit-requires-2 : lts.Need-digit-requires-2 (claims t) (number-at t) number.Post
   digit-requires-2 c κs =
-      let n = no (less c) in
-      next-digit (due (n .before .before)) (n .before .single .ensures) (n .if1 .left)
+      let n = c .before .before in
+      let s = n .before in
+      next-digit (due (s .before)) (s .single .ensures) (n .if1 .left)
 
   push-requires-2 : lts.Need-push-requires-2 (claims t) (number-at t) number.Post
   push-requires-2 c κs =
-      let l = less (c .before) in
-      let n = no l in
-      push-room (due (n .before .before)) (n .before .single .ensures) (n .if1 .left)
-      (l .less-one .ensures) (c .before .number .ensures)
+      let l = c .before .before in
+      let n = l .before in
+      let s = n .before in
+      push-room (due (s .before)) (s .single .ensures) (n .if1 .left) (l .less-one .ensures) (c .before .number .ensures)
 
   returns-2 : lts.Need-returns-2 (claims t) (number-at t) number.Post
   returns-2 c =
       let h = c .before .before in
-      let l = less h in
-      let n = no l in
-      more-is (due (n .before .before)) (n .before .single .ensures) (n .if1 .left)
-      (l .less-one .ensures) (h .number .ensures) (c .before .digit2 .ensures) (c .push2 .ensures)
+      let l = h .before in
+      let n = l .before in
+      let s = n .before in
+      more-is (due (s .before)) (s .single .ensures) (n .if1 .left) (l .less-one .ensures) (h .number .ensures)
+      (c .before .digit2 .ensures) (c .push2 .ensures)
 
 pub +number-spec : {M : Type 1} → statement M
 +number-spec =

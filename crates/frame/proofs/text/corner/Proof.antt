@@ -10,7 +10,8 @@ use Rattle.frame.specs.Lines.{Shows}
 use Rattle.frame.proofs.text.corner.Statement.{statement}
 use Rattle.frame.proofs.text.corner.Tie as tie
 
-three-words : {a b c : ℕ} (x y z : Float) {r : Line} → a ≡ toBits binary32 x → b ≡ toBits binary32 y → c ≡ toBits binary32 z
+three-words : {a b c : ℕ} (x y z : Float) {r : Line}
+    → a ≡ toBits binary32 x → b ≡ toBits binary32 y → c ≡ toBits binary32 z
     → Shows (row (numeral 16 8 a ∷ numeral 16 8 b ∷ numeral 16 8 c ∷ [])) r → Shows (cornerLine (x ∷ y ∷ z ∷ [])) r
 unfolding cornerLine
 three-words x y z d e f s = rw (d, e, f) at s

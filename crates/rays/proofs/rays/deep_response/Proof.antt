@@ -1,5 +1,5 @@
 -- `deep_response`: the four differences are the four rays. Assumes nothing.
-use mathlib.Core.Path.{_≡_, _∙_}
+use mathlib.Core.Path.{_∙_}
 use Prim.Native.Nat.{ℕ, _+_, _-_, _*_, _≤_}
 use native.Mathlib.Omega.{arith}
 use borrow.Author.Needs.{needs}
@@ -21,7 +21,9 @@ abbrev start4 : tie.After-difference4 → tie.Start
 start4 c = start2 (c .before .before)
 
 -- the eight entries, and where their rows end
-rays : (s : tie.Start) → DeepRays (s .args .at .w) (s .args .at .r) (s .args .x) (s .args .at .y) (s .args .row .now) (s .args .col .now) (s .args .falling .now) (s .args .rising .now)
+rays : (s : tie.Start)
+    → DeepRays (s .args .at .w) (s .args .at .r) (s .args .x) (s .args .at .y)
+    (s .args .row .now) (s .args .col .now) (s .args .falling .now) (s .args .rising .now)
 rays s = deep-rays (s .pre .1 .tables) (s .pre .0)
 
 abbrev w : tie.Start → ℕ

@@ -8,7 +8,7 @@ use borrow.Author.Needs.{needs}
 use Rattle.grid.specs.Ways.{Way, along, down, fall, rise, ray, Holds}
 use Rattle.rays.specs.Shown.{shown}
 use Rattle.rays.proofs.Inner.{response-in}
-use Rattle.rays.proofs.Showing.{EdgeRay, edge-ray, ray-small}
+use Rattle.rays.proofs.Showing.{EdgeRay, edge-ray, ray-read, ray-small}
 use Rattle.rays.proofs.rays.radon_response_at.Statement.{statement}
 use Rattle.rays.proofs.rays.radon_response_at.Tie as tie
 
@@ -109,10 +109,10 @@ returns c =
     let s = start4 b in
     c .squared-spread .ensures
     ∙ response-in _ _ _ _ _ _ (s .pre .0)
-    (b .before .before .before .between .ensures ∙ on-row s .is)
-    (b .before .before .between2 .ensures ∙ on-col s .is)
-    (b .before .between3 .ensures ∙ on-falling s .is)
-    (b .between4 .ensures ∙ on-rising s .is)
+    (ray-read (on-row s) (b .before .before .before .between .ensures))
+    (ray-read (on-col s) (b .before .before .between2 .ensures))
+    (ray-read (on-falling s) (b .before .between3 .ensures))
+    (ray-read (on-rising s) (b .between4 .ensures))
 
 pub radon-response-at-spec : {M : Type 1} → statement M
 radon-response-at-spec =
