@@ -1,8 +1,7 @@
 -- `frame_runner::run_frame_file` meets its contract: the file is refused, or the finder answers. Assumes nothing.
 use denote.Ref.{now}
 use borrow.Author.Needs.{needs}
-use Rattle.radon.specs.Finder.{Buffers}
-use Rattle.radon.specs.Finder.{lent}
+use Rattle.radon.specs.Finder.{Buffers, lent}
 use Rattle.frame_runner.proofs.Cases.{when-refused, when-read}
 use Rattle.frame_runner.proofs.run_frame_file.Statement.{statement}
 use Rattle.frame_runner.proofs.run_frame_file.Tie as tie
