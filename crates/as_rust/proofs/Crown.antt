@@ -33,9 +33,9 @@ use Rattle.params.proofs.Accepted.{map-accepted, all-accepted}
 use Rattle.scalar.specs.Log.{logOf, terms, high, lowest, highest, difference, unitsOf, cutThird}
 use Rattle.scalar.specs.declared.Log.the-variants.{Value}
 use Rattle.scalar.proofs.Facts.{log-inside}
-use Rattle.response.specs.Runs.{Runs, runs-of}
+use Rattle.response.proofs.Runs.{Runs, runs-of}
 use Rattle.response.specs.Map.{Buffers as MapBuffers, answered as map-answered, mapBuffersOf, mappedOf, mappedBy, workOf, mapOf, sideOf, roomOf}
-use Rattle.response.specs.MapFacts.{map-range}
+use Rattle.response.proofs.MapFacts.{map-range}
 use Rattle.response.proofs.Places.{map-fits}
 use Rattle.grid.specs.Ways.{value}
 use Rattle.detect.specs.Corners.{corners, numbers, stride}

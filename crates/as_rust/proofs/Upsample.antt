@@ -16,7 +16,7 @@ use Rattle.grid.proofs.Fill.{filled-zero}
 use Rattle.grid.specs.Plane.{plane}
 use Rattle.grid.proofs.Plane.{pixel-in}
 use Rattle.grid.specs.Ways.{pixel}
-use Rattle.response.specs.Upsample.{weighted, after, upAt}
+use Rattle.upsample.specs.Upsample.{weighted, after, upAt}
 use Rattle.as_rust.specs.Machine.{Machine, _⊕_, _⊖_, _⊗_, lit-0, lit-1, lit-half, lit-255, floor, rounded, clamp, maxℤ, usize, less, as-usize, as-f32, to-isize, to-u8, byte-at}
 use Rattle.as_rust.specs.Response.{out-px, row-kernel, upsample-bilinear-2x}
 use Rattle.radon.specs.Finder.{Bytes}

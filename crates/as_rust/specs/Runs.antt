@@ -30,8 +30,8 @@ pub record SameMap (w h blur : ℕ) (ours : Buffers) (rust : RadonBuffers) : Typ
   pub working : take (w * h) (ours .working) ≡ rust .working
   pub row : map pos (take (w * h) (ours .row)) ≡ rust .row-cumsum
   pub col : map pos (take (w * h) (ours .col)) ≡ rust .col-cumsum
-  pub falling : map pos (take (w * h) (ours .pos)) ≡ rust .diag-pos-cumsum
-  pub rising : map pos (take (w * h) (ours .neg)) ≡ rust .diag-neg-cumsum
+  pub falling : map pos (take (w * h) (ours .falling)) ≡ rust .diag-pos-cumsum
+  pub rising : map pos (take (w * h) (ours .rising)) ≡ rust .diag-neg-cumsum
   pub response : take (w * h) (ours .response) ≡ rust .response
   pub scratch : 0 < blur → take (w * h) (ours .scratch) ≡ rust .blur-scratch
 

@@ -2,20 +2,12 @@
 use mathlib.Core.List.{List}
 use Prim.Native.Nat.{ℕ}
 use lib.ListN.{drop}
-use lib.Ieee.{Float}
 use Rattle.params.specs.declared.answers.Outcome.{Outcome}
 use Rattle.params.specs.Answers.{refused}
 use Rattle.frame.specs.declared.Reading.{Reading}
 use Rattle.frame.specs.declared.Reading.the-variants.{Frame, Refused}
 use Rattle.frame.specs.FrameFile.{readOf}
 use Rattle.radon.specs.Finder.{Buffers, outcomeOf, buffersOf}
-
--- the eight buffers, in the order in which they are lent
-abbrev pub lent : List ℕ → List ℕ → List ℕ → List ℕ → List ℕ → List Float → List Float → List Float → Buffers
-lent working row col pos neg response scratch list = record {
-  map = record { working = working; row = row; col = col; pos = pos; neg = neg; response = response; scratch = scratch };
-  list = list;
-}
 
 -- "10 over 2,324 bytes"
 abbrev pub limit : ℕ

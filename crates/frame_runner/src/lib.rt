@@ -4,7 +4,8 @@ ghost use mathlib.Core.List.{List};
 ghost use Prim.Native.Nat.{ℕ};
 ghost use lib.ListN.{length, take};
 ghost use Rattle.frame.specs.Printed.{printed};
-ghost use Rattle.frame_runner.specs.FileAnswer.{lent, fileOutcome, fileBuffers};
+ghost use Rattle.radon.specs.Finder.{lent};
+ghost use Rattle.frame_runner.specs.FileAnswer.{fileOutcome, fileBuffers};
 ghost use Rattle.frame_runner.specs.Program.{blank, linesOf};
 use frame::Reading;
 use params::Outcome;
@@ -18,20 +19,20 @@ pub fn run_frame_file(
     working: &mut [u8],
     row: &mut [u32],
     col: &mut [u32],
-    pos: &mut [u32],
-    neg: &mut [u32],
+    falling: &mut [u32],
+    rising: &mut [u32],
     response: &mut [f32],
     scratch: &mut [f32],
     list: &mut [f32],
 ) -> Outcome
     ensures answer { λ r. ⌜ r ≡ fileOutcome (now (file .entry))
-        (lent (now (working .entry)) (now (row .entry)) (now (col .entry)) (now (pos .entry))
-        (now (neg .entry)) (now (response .entry)) (now (scratch .entry)) (now (list .entry))) ⌝ }
-    ensures buffers { λ _. ⌜ lent (now (working .exit)) (now (row .exit)) (now (col .exit)) (now (pos .exit))
-        (now (neg .exit)) (now (response .exit)) (now (scratch .exit)) (now (list .exit))
+        (lent (now (working .entry)) (now (row .entry)) (now (col .entry)) (now (falling .entry))
+        (now (rising .entry)) (now (response .entry)) (now (scratch .entry)) (now (list .entry))) ⌝ }
+    ensures buffers { λ _. ⌜ lent (now (working .exit)) (now (row .exit)) (now (col .exit)) (now (falling .exit))
+        (now (rising .exit)) (now (response .exit)) (now (scratch .exit)) (now (list .exit))
         ≡ fileBuffers (now (file .entry))
-        (lent (now (working .entry)) (now (row .entry)) (now (col .entry)) (now (pos .entry))
-        (now (neg .entry)) (now (response .entry)) (now (scratch .entry)) (now (list .entry))) ⌝ }
+        (lent (now (working .entry)) (now (row .entry)) (now (col .entry)) (now (falling .entry))
+        (now (rising .entry)) (now (response .entry)) (now (scratch .entry)) (now (list .entry))) ⌝ }
 {
     let reading = frame::read(file, LIMIT);
     match reading {
@@ -44,8 +45,8 @@ pub fn run_frame_file(
             working,
             row,
             col,
-            pos,
-            neg,
+            falling,
+            rising,
             response,
             scratch,
             list,
@@ -61,8 +62,8 @@ pub fn run_with_room(file: &[u8], list: &mut [f32]) -> Outcome
     let mut working = [0u8; 2304];
     let mut row = [0u32; 2304];
     let mut col = [0u32; 2304];
-    let mut pos = [0u32; 2304];
-    let mut neg = [0u32; 2304];
+    let mut falling = [0u32; 2304];
+    let mut rising = [0u32; 2304];
     let mut response = [0.0f32; 2304];
     let mut scratch = [0.0f32; 2304];
     run_frame_file(
@@ -70,8 +71,8 @@ pub fn run_with_room(file: &[u8], list: &mut [f32]) -> Outcome
         &mut working,
         &mut row,
         &mut col,
-        &mut pos,
-        &mut neg,
+        &mut falling,
+        &mut rising,
         &mut response,
         &mut scratch,
         list,

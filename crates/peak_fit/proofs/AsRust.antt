@@ -12,7 +12,8 @@ use lib.Ieee.{Float, nan, inf, fin, up, down, binary32, fits, ofBits, isNan, sub
 use lib.Ieee.Fits.{and-l, and-r, down-pos}
 use Rattle.float.specs.Values.{f0}
 use Rattle.float.proofs.Order.{le-lt-trans, le-of-not-lt}
-use Rattle.float.proofs.Sized.{Small, small, sized, small-mono, small-of-le, div-number, zeroFloat, add-small, sub-small, mul-small}
+use Rattle.float.proofs.Sized.{Small, small, sized, small-mono, small-of-le, Held, held, div-number, zeroFloat}
+use Rattle.float.proofs.Sized.{add-small, sub-small, mul-small}
 use Rattle.params.specs.declared.settings.PeakFitMode.{PeakFitMode}
 use Rattle.params.specs.declared.settings.PeakFitMode.the-variants.{Parabolic, Gaussian}
 use Rattle.scalar.specs.Log.{logOf, terms, high}

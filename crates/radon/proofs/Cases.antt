@@ -20,7 +20,7 @@ use Rattle.params.specs.Refusals.{orElse, sizeRefusal, mapRefusal, listRefusal,
 use Rattle.params.proofs.Accepted.{both-pass, sizes-pass}
 use Rattle.response.specs.declared.Mapped.{Mapped}
 use Rattle.response.specs.Map.{Buffers as MapBuffers, roomOf, sideOf, workOf, mapOf, mapped, mappedBy, mappedOf, mapBuffersOf}
-use Rattle.response.specs.Runs.{Runs, runs-of, side-most}
+use Rattle.response.proofs.Runs.{Runs, runs-of, side-most}
 use Rattle.grid.specs.Ways.{value}
 use Rattle.detect.specs.Corners.{numbers, stride}
 use Rattle.detect.specs.Detected.{workingRefusal, peaksRefusal, foundIn, peaksOutcome, listOf}

@@ -23,10 +23,11 @@ use Rattle.params.specs.declared.settings.RadonDetectorParams.{RadonDetectorPar
 use Rattle.params.specs.Settings.{factorOf, rayOf}
 use Rattle.params.specs.Answers.{numberOf, refused}
 use Rattle.response.specs.Map.{roomOf, sideOf}
-use Rattle.response.specs.Quarter.{quarter, near}
-use Rattle.response.specs.Response.{raySpread}
-use Rattle.response.specs.MapFacts.{SameWritten, same-written}
-use Rattle.response.proofs.Places.{work-doubled, work-copied, raw-squared, raw-border, unblurred, map-fits}
+use Rattle.upsample.specs.Kernel.{quarter, near}
+use Rattle.rays.specs.Response.{raySpread}
+use Rattle.response.proofs.MapFacts.{SameWritten, same-written}
+use Rattle.upsample.proofs.RoundedQuarter.{work-doubled, work-copied}
+use Rattle.response.proofs.Places.{raw-squared, raw-border, unblurred, map-fits}
 use Rattle.response.proofs.Beyond.{Stays, stays}
 use Rattle.detect.specs.Maximum.{entry}
 use Rattle.detect.specs.Corners.{stride}

@@ -20,8 +20,8 @@ use Rattle.params.specs.declared.settings.RadonDetectorParams.{RadonDetectorPar
 use Rattle.params.specs.Settings.{factorOf, rayOf}
 use Rattle.params.specs.Answers.{numberOf}
 use Rattle.response.specs.Map.{Buffers as MapBuffers, sideOf, workOf, mapOf, mapped, mappedBy}
-use Rattle.response.specs.Runs.{Runs}
-use Rattle.response.specs.MapFacts.{raised-frame, map-range}
+use Rattle.response.proofs.Runs.{Runs}
+use Rattle.response.proofs.MapFacts.{raised-frame, map-range}
 use Rattle.grid.specs.Ways.{value}
 use Rattle.detect.specs.Corners.{numbers, stride}
 use Rattle.radon.specs.Finder.{Buffers, Bytes, answered, found, buffersOf}

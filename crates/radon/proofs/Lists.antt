@@ -26,8 +26,8 @@ use Rattle.params.specs.Settings.{factorOf, rayOf}
 use Rattle.params.specs.Answers.{numberOf}
 use Rattle.params.proofs.Accepted.{all-accepted}
 use Rattle.response.specs.Map.{roomOf, sideOf, mapOf}
-use Rattle.response.specs.MapFacts.{SameWritten, same-written, map-number}
-use Rattle.response.specs.Runs.{Runs}
+use Rattle.response.proofs.MapFacts.{SameWritten, same-written, map-number}
+use Rattle.response.proofs.Runs.{Runs}
 use Rattle.detect.specs.Window.{at}
 use Rattle.detect.specs.Maximum.{entry}
 use Rattle.detect.specs.Corners.{corners, numbers, stride}

@@ -17,9 +17,9 @@ use Rattle.params.specs.declared.settings.RadonDetectorParams.{RadonDetectorPar
 use Rattle.params.specs.Coordinates.{toInput}
 use Rattle.params.specs.Answers.{numberOf}
 use Rattle.params.specs.Refusals.{sizeRefusal, mapRefusal, listRefusal, roomRefusal, refusalOf}
-use Rattle.response.specs.Upsample.{workAt}
-use Rattle.response.specs.Response.{raySpread, square, responseAt}
-use Rattle.response.specs.Blur.{blurAt}
+use Rattle.upsample.specs.Upsample.{workAt}
+use Rattle.rays.specs.Response.{raySpread, square, responseAt}
+use Rattle.blur.specs.Blur.{blurAt}
 use Rattle.response.specs.Map.{rawAt, mapAt, sideOf, mapOf}
 use Rattle.detect.specs.Window.{beaten, positives}
 use Rattle.detect.specs.Saddle.{saddleOf, saddleAt, disk}

@@ -23,7 +23,8 @@ pub record Buffers : Type 0 where
 
 -- in the order in which they are lent
 abbrev pub lent : List ℕ → List ℕ → List ℕ → List ℕ → List ℕ → List Float → List Float → List Float → Buffers
-lent working row col pos neg response scratch list = record { map = mapLent working row col pos neg response scratch; list = list }
+lent working row col falling rising response scratch list =
+    record { map = mapLent working row col falling rising response scratch; list = list }
 
 -- an image of bytes, which every lent `&[u8]` is: the theorems that need it ask for it
 abbrev pub Bytes : List ℕ → Type 0

@@ -15,28 +15,28 @@ pub fn radon_corners_u8(
     working: &mut [u8],
     row: &mut [u32],
     col: &mut [u32],
-    pos: &mut [u32],
-    neg: &mut [u32],
+    falling: &mut [u32],
+    rising: &mut [u32],
     response: &mut [f32],
     scratch: &mut [f32],
     list: &mut [f32],
 ) -> Outcome
     ensures answer { λ r. ⌜ r ≡ outcomeOf (now (img .entry)) w h p
-        (lent (now (working .entry)) (now (row .entry)) (now (col .entry)) (now (pos .entry)) (now (neg .entry))
+        (lent (now (working .entry)) (now (row .entry)) (now (col .entry)) (now (falling .entry)) (now (rising .entry))
         (now (response .entry)) (now (scratch .entry)) (now (list .entry))) ⌝ }
-    ensures buffers { λ _. ⌜ lent (now (working .exit)) (now (row .exit)) (now (col .exit)) (now (pos .exit)) (now (neg .exit))
+    ensures buffers { λ _. ⌜ lent (now (working .exit)) (now (row .exit)) (now (col .exit)) (now (falling .exit)) (now (rising .exit))
         (now (response .exit)) (now (scratch .exit)) (now (list .exit))
         ≡ buffersOf (now (img .entry)) w h p
-        (lent (now (working .entry)) (now (row .entry)) (now (col .entry)) (now (pos .entry)) (now (neg .entry))
+        (lent (now (working .entry)) (now (row .entry)) (now (col .entry)) (now (falling .entry)) (now (rising .entry))
         (now (response .entry)) (now (scratch .entry)) (now (list .entry))) ⌝ }
 {
-    let tables = lesser(lesser(row.len(), col.len()), lesser(pos.len(), neg.len()));
+    let tables = lesser(lesser(row.len(), col.len()), lesser(falling.len(), rising.len()));
     let floats = lesser(response.len(), scratch.len());
     let room = lesser(working.len(), lesser(tables, floats));
     let answer = params::judge(w, h, img.len(), p, room);
     if answer.number() != 0 {
         return Outcome::refusal(answer);
     }
-    let map = radon_response_u8(img, w, h, p, working, row, col, pos, neg, response, scratch);
+    let map = radon_response_u8(img, w, h, p, working, row, col, falling, rising, response, scratch);
     detect::detect_peaks_from_radon(response, working, map.w, map.h, p, list)
 }

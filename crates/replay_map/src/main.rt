@@ -45,8 +45,8 @@ fn mapped(file: &[u8], s: &[u8], at: usize) -> Compared {
     let mut working = [0u8; 2304];
     let mut row = [0u32; 2304];
     let mut col = [0u32; 2304];
-    let mut pos = [0u32; 2304];
-    let mut neg = [0u32; 2304];
+    let mut falling = [0u32; 2304];
+    let mut rising = [0u32; 2304];
     let mut response = [0.0f32; 2304];
     let mut scratch = [0.0f32; 2304];
     let map = response::radon_response_u8(
@@ -57,8 +57,8 @@ fn mapped(file: &[u8], s: &[u8], at: usize) -> Compared {
         &mut working,
         &mut row,
         &mut col,
-        &mut pos,
-        &mut neg,
+        &mut falling,
+        &mut rising,
         &mut response,
         &mut scratch,
     );
@@ -67,8 +67,8 @@ fn mapped(file: &[u8], s: &[u8], at: usize) -> Compared {
         &working,
         &row,
         &col,
-        &pos,
-        &neg,
+        &falling,
+        &rising,
         &response,
         &scratch,
         s,
@@ -82,8 +82,8 @@ fn against(
     working: &[u8],
     row: &[u32],
     col: &[u32],
-    pos: &[u32],
-    neg: &[u32],
+    falling: &[u32],
+    rising: &[u32],
     response: &[f32],
     scratch: &[f32],
     s: &[u8],
@@ -98,8 +98,8 @@ fn against(
     let c = replay::then(c, replay::bytes(s, c.next, working, n));
     let c = replay::then(c, replay::words(s, c.next, row, n));
     let c = replay::then(c, replay::words(s, c.next, col, n));
-    let c = replay::then(c, replay::words(s, c.next, pos, n));
-    let c = replay::then(c, replay::words(s, c.next, neg, n));
+    let c = replay::then(c, replay::words(s, c.next, falling, n));
+    let c = replay::then(c, replay::words(s, c.next, rising, n));
     let c = replay::then(c, replay::floats(s, c.next, response, n));
     let blurred = replay::word(s, c.next);
     let next = replay::skip(s, c.next, 4);

@@ -25,13 +25,16 @@ radius-fits k e = leb-true k 7 (both-true (leb 1 k) (leb k 7) e .1)
 
 -- ---- the disk
 
--- the code's test, without a sum that could wrap
-pub room-after : (k c n : ℕ) → ltb k (n - c) ≡ ltb (c + k) n
+room-after : (k c n : ℕ) → ltb k (n - c) ≡ ltb (c + k) n
 room-after k c n = go (ltb (c + k) n) refl
   where
     go : (t : Bool) → ltb (c + k) n ≡ t → ltb k (n - c) ≡ t
     go true e = lt-ltb k (n - c) (omega (arith, ltb-true (c + k) n e))
     go false e = le-ltb k (n - c) (omega (arith, ltb-false (c + k) n e))
+
+-- the code's test, without a sum that could wrap: d is what is left of n after c
+pub clear-is : (k c n : ℕ) {d : ℕ} → d ≡ n - c → (leb k c && ltb k d) ≡ clearOf k c n
+clear-is k c n e = rw (e, room-after k c n)
 
 clear-of : (k c n : ℕ) → clearOf k c n ≡ true → (k ≤ c) × (c + k < n)
 clear-of k c n e =

@@ -10,7 +10,8 @@ use lib.IntN.{pos, negsuc}
 use lib.Ieee.{Float, nan, inf, fin, up, down, binary32, toBits, ofBits, ofInt, add, sub, mul, div}
 use lib.Ieee.Fits.{and-l, and-r}
 use Rattle.float.proofs.Computed.{every, every-at}
-use Rattle.float.proofs.Sized.{Sized, sized, Small, small, Held, held, small-mono, round-sized, mul-small, add-small, sub-small, add-plus, square-plus}
+use Rattle.float.proofs.Sized.{Sized, sized, Small, small, Held, held, small-mono, round-sized}
+use Rattle.float.proofs.Sized.{mul-small, add-small, sub-small, add-plus, square-plus}
 use Rattle.grid.specs.Each.{each, keep}
 use Rattle.grid.specs.Rect.{Place, from, range, line, rect}
 use Rattle.scalar.specs.Root.{rootOf, rootBits}

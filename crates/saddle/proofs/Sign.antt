@@ -13,9 +13,9 @@ use lib.Ieee.Fits.{down-pos, up-pos}
 use Rattle.float.specs.Values.{f1}
 use Rattle.float.proofs.Order.{no-factor}
 use Rattle.float.proofs.Product.{round-zero}
-use Rattle.detect.specs.declared.saddle.Saddle.the-variants.{Yes, Flat, Curved}
-use Rattle.detect.specs.Saddle.{ratio, magnitude, verdict}
-use Rattle.detect.specs.Around.{signless}
+use Rattle.saddle.specs.declared.Saddle.the-variants.{Yes, Flat, Curved}
+use Rattle.saddle.specs.Saddle.{ratio, magnitude, byCurvatures}
+use Rattle.saddle.specs.Steps.{signless}
 
 -- ---- -0 is at most what +0 is at most
 

@@ -88,8 +88,8 @@ pub extern "C" fn steyrbunk_find(
     work: &mut [u8],
     row: &mut [u32],
     col: &mut [u32],
-    pos: &mut [u32],
-    neg: &mut [u32],
+    falling: &mut [u32],
+    rising: &mut [u32],
     resp: &mut [f32],
     scratch: &mut [f32],
     list: &mut [f32],
@@ -99,18 +99,18 @@ pub extern "C" fn steyrbunk_find(
 ) -> u32
     ensures told { λ r. ⌜ reported r (now (count .exit)) (now (ww .exit)) (now (wh .exit))
         ≡ told (calledOutcome (settingsOf ray up blur fit threshold nms least) (now (img .entry)) w h
-        (lent (now (work .entry)) (now (row .entry)) (now (col .entry)) (now (pos .entry)) (now (neg .entry))
+        (lent (now (work .entry)) (now (row .entry)) (now (col .entry)) (now (falling .entry)) (now (rising .entry))
         (now (resp .entry)) (now (scratch .entry)) (now (list .entry)))) ⌝ }
-    ensures buffers { λ _. ⌜ lent (now (work .exit)) (now (row .exit)) (now (col .exit)) (now (pos .exit)) (now (neg .exit))
+    ensures buffers { λ _. ⌜ lent (now (work .exit)) (now (row .exit)) (now (col .exit)) (now (falling .exit)) (now (rising .exit))
         (now (resp .exit)) (now (scratch .exit)) (now (list .exit))
         ≡ calledBuffers (settingsOf ray up blur fit threshold nms least) (now (img .entry)) w h
-        (lent (now (work .entry)) (now (row .entry)) (now (col .entry)) (now (pos .entry)) (now (neg .entry))
+        (lent (now (work .entry)) (now (row .entry)) (now (col .entry)) (now (falling .entry)) (now (rising .entry))
         (now (resp .entry)) (now (scratch .entry)) (now (list .entry))) ⌝ }
 {
     let Settings::Given(p) = settings_of(ray, up, blur, fit, threshold, nms, least) else {
         return tell(Outcome::refusal(Answer::Mode), count, ww, wh);
     };
-    let o = radon_corners_u8(img, w, h, p, work, row, col, pos, neg, resp, scratch, list);
+    let o = radon_corners_u8(img, w, h, p, work, row, col, falling, rising, resp, scratch, list);
     tell(o, count, ww, wh)
 }
 
@@ -141,8 +141,8 @@ pub extern "C" fn steyrbunk_response(
     working: &mut [u8],
     row: &mut [u32],
     col: &mut [u32],
-    pos: &mut [u32],
-    neg: &mut [u32],
+    falling: &mut [u32],
+    rising: &mut [u32],
     response: &mut [f32],
     scratch: &mut [f32],
     ww: &mut usize,
@@ -150,16 +150,16 @@ pub extern "C" fn steyrbunk_response(
 ) -> u32
     ensures told { λ r. ⌜ mapReported r (now (ww .exit)) (now (wh .exit))
         ≡ mapTold (mappedOf (now (img .entry)) w h (mapSettings ray up blur)
-        (mapLent (now (working .entry)) (now (row .entry)) (now (col .entry)) (now (pos .entry)) (now (neg .entry))
+        (mapLent (now (working .entry)) (now (row .entry)) (now (col .entry)) (now (falling .entry)) (now (rising .entry))
         (now (response .entry)) (now (scratch .entry)))) ⌝ }
-    ensures buffers { λ _. ⌜ mapLent (now (working .exit)) (now (row .exit)) (now (col .exit)) (now (pos .exit)) (now (neg .exit))
+    ensures buffers { λ _. ⌜ mapLent (now (working .exit)) (now (row .exit)) (now (col .exit)) (now (falling .exit)) (now (rising .exit))
         (now (response .exit)) (now (scratch .exit))
         ≡ mapBuffersOf (now (img .entry)) w h (mapSettings ray up blur)
-        (mapLent (now (working .entry)) (now (row .entry)) (now (col .entry)) (now (pos .entry)) (now (neg .entry))
+        (mapLent (now (working .entry)) (now (row .entry)) (now (col .entry)) (now (falling .entry)) (now (rising .entry))
         (now (response .entry)) (now (scratch .entry))) ⌝ }
 {
     let p = map_settings(ray, up, blur);
-    let m = radon_response_u8(img, w, h, p, working, row, col, pos, neg, response, scratch);
+    let m = radon_response_u8(img, w, h, p, working, row, col, falling, rising, response, scratch);
     let answer = m.answer;
     *ww = m.w;
     *wh = m.h;

@@ -1,8 +1,7 @@
 -- `frame_runner::run_frame_file` meets its contract: the file is refused, or the finder answers. Assumes nothing.
 use denote.Ref.{now}
 use borrow.Author.Needs.{needs}
-use Rattle.radon.specs.Finder.{Buffers}
-use Rattle.frame_runner.specs.FileAnswer.{lent}
+use Rattle.radon.specs.Finder.{Buffers, lent}
 use Rattle.frame_runner.proofs.Cases.{when-refused, when-read}
 use Rattle.frame_runner.proofs.run_frame_file.Statement.{statement}
 use Rattle.frame_runner.proofs.run_frame_file.Tie as tie
@@ -26,7 +25,7 @@ start c = c .before .before .before .before .before .before .before .before .bef
 -- the buffers as they were lent
 abbrev buffers : tie.Start → Buffers
 buffers s =
-    lent (now (s .args .working)) (now (s .args .row)) (now (s .args .col)) (now (s .args .pos)) (now (s .args .neg))
+    lent (now (s .args .working)) (now (s .args .row)) (now (s .args .col)) (now (s .args .falling)) (now (s .args .rising))
     (now (s .args .response)) (now (s .args .scratch)) (now (s .args .list))
 
 read-requires : tie.Need-read-requires

@@ -3,7 +3,7 @@ use mathlib.Core.Path.{_≡_}
 use denote.Ref.{now}
 use borrow.Author.Needs.{needs}
 use Rattle.response.specs.Map.{roomOf}
-use Rattle.response.proofs.Cases.{room-by}
+use Rattle.response.proofs.Runs.{room-by}
 use Rattle.radon.specs.Finder.{Buffers, lent}
 use Rattle.radon.proofs.Cases.{when-refused, when-accepted}
 use Rattle.radon.proofs.radon_corners_u8.Statement.{statement}
@@ -18,7 +18,7 @@ start c = c .before .before .before .before .before .before .before .before .bef
 abbrev given : tie.After-judge → Buffers
 given c =
     let o = start c .args in
-    lent (now (o .working)) (now (o .row)) (now (o .col)) (now (o .pos)) (now (o .neg)) (now (o .response)) (now (o .scratch)) (now (o .list))
+    lent (now (o .working)) (now (o .row)) (now (o .col)) (now (o .falling)) (now (o .rising)) (now (o .response)) (now (o .scratch)) (now (o .list))
 
 -- from the end to the call that makes the map, and from there to the answer's number and to the answer
 abbrev the-map : tie.After-slice-known16 → tie.After-radon-response-u8

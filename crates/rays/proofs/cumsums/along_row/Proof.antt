@@ -2,7 +2,7 @@
 use mathlib.Core.Path.{_≡_}
 use Prim.Native.Nat.{_+_, _-_, _*_}
 use native.Mathlib.Omega.{arith}
-use Rattle.grid.specs.Loops.{row-more}
+use Rattle.grid.proofs.Loops.{row-more}
 use Rattle.grid.specs.Ways.{along}
 use Rattle.rays.proofs.Running.{Filling, row-start, row-whole, Carried, carried-none, carried-more, carried-fits}
 use Rattle.rays.proofs.cumsums.along_row.Statement.{statement}
