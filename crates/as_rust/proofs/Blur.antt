@@ -18,7 +18,7 @@ use Rattle.grid.specs.Plane.{plane}
 use Rattle.grid.proofs.Plane.{getD-plane, pixel-in, row-in, next-row, column-in, row-number-in}
 use Rattle.grid.specs.Fold.{fsum}
 use Rattle.grid.proofs.Fold.{fold-none, fold-on}
-use Rattle.response.specs.Blur.{valueAt, counted, windowSum, rowMean, columnMean, blurAt, scratched}
+use Rattle.blur.specs.Blur.{valueAt, counted, windowSum, meanAt, rowMean, columnMean, blurAt, scratched}
 use Rattle.as_rust.specs.Machine.{Machine, _⊕_, _⊗_, _⊘_, lit-0, lit-1, as-f32, float-at, put, for, chunks}
 use Rattle.as_rust.specs.Primitives.{horiz-px, horiz-kernel, vert-kernel, box-blur-inplace}
 use Rattle.as_rust.proofs.Machine.{usize-is, less-is, inside, put-is}
@@ -46,7 +46,7 @@ none-is = refl
 
 module _ (m : Machine) (resp : List Float) (w h r : ℕ) (l : r ≤ 3) (whole : length resp ≡ w * h) (wide : w ≤ 8192) (high : h ≤ 8192) where
   horiz-as-rust : (x y : ℕ) → x < w → y < h → horiz-px m resp w r y x ≡ rowMean (valueAt resp w) w r x y
-  unfolding horiz-px rowMean windowSum
+  unfolding horiz-px rowMean meanAt windowSum
   horiz-as-rust x y a b =
       rw (usize-is m (y * w) (omega (arith, room, flat)), usize-is m (x + r + 1) (omega arith))
       (let s = for-keeps {S = Float × Float} (λ i s. (s .0 ≡ fsum g (i - (x - r))) × (s .1 ≡ as-f32 (i - (x - r)))) (x - r) (min (x + r + 1) w)

@@ -24,30 +24,30 @@ use Rattle.grid.proofs.Each.{each-each, each-ext, each-one, take-each, length-e
 use Rattle.grid.specs.Rect.{Place}
 use Rattle.grid.specs.Over.{over, written}
 use Rattle.grid.proofs.All.{all-map, each-same}
-use Rattle.params.specs.declared.RadonDetectorParams.{RadonDetectorParams}
-use Rattle.params.specs.declared.PeakFitMode.{PeakFitMode}
-use Rattle.params.specs.declared.PeakFitMode.the-variants.{Parabolic, Gaussian}
+use Rattle.params.specs.declared.settings.RadonDetectorParams.{RadonDetectorParams}
+use Rattle.params.specs.declared.settings.PeakFitMode.{PeakFitMode}
+use Rattle.params.specs.declared.settings.PeakFitMode.the-variants.{Parabolic, Gaussian}
 use Rattle.params.specs.Settings.{defaults, factorOf, rayOf}
 use Rattle.params.specs.Answers.{numberOf}
-use Rattle.params.specs.Accepted.{map-accepted, all-accepted}
+use Rattle.params.proofs.Accepted.{map-accepted, all-accepted}
 use Rattle.scalar.specs.Log.{logOf, terms, high, lowest, highest, difference, unitsOf, cutThird}
 use Rattle.scalar.specs.declared.Log.the-variants.{Value}
 use Rattle.scalar.proofs.Facts.{log-inside}
-use Rattle.response.specs.Runs.{Runs, runs-of}
-use Rattle.response.specs.Map.{Buffers as MapBuffers, answered as map-answered, buffersOf as map-buffersOf, mappedOf, mappedBy, workOf, mapOf, sideOf, roomOf}
-use Rattle.response.specs.MapFacts.{map-range}
+use Rattle.response.proofs.Runs.{Runs, runs-of}
+use Rattle.response.specs.Map.{Buffers as MapBuffers, answered as map-answered, mapBuffersOf, mappedOf, mappedBy, workOf, mapOf, sideOf, roomOf}
+use Rattle.response.proofs.MapFacts.{map-range}
 use Rattle.response.proofs.Places.{map-fits}
-use Rattle.detect.specs.Window.{value}
+use Rattle.grid.specs.Ways.{value}
 use Rattle.detect.specs.Corners.{corners, numbers, stride}
 use Rattle.detect.proofs.Inside.{corners-same}
 use Rattle.detect.proofs.Places.{Inner, corners-inner}
-use Rattle.radon.specs.Finder.{Buffers, answered, found, outcomeOf, buffersOf}
+use Rattle.radon.specs.Finder.{Buffers, Bytes, answered, found, outcomeOf, buffersOf}
 use Rattle.radon.proofs.Cases.{runs-by}
 use Rattle.as_rust.specs.Machine.{Machine, Sound, lit-minus-0, lit-0}
 use Rattle.as_rust.specs.Primitives.{is-gaussian, peak-frac, fit-peak-frac}
 use Rattle.as_rust.specs.Response.{default, RadonBuffers, RadonResponseView, view, radon-response-u8}
 use Rattle.as_rust.specs.Detect.{detect-peaks-from-radon}
-use Rattle.as_rust.specs.Runs.{Bytes, SameMap, SameFound, SameList, numbers-by, LogIsOurs, found-by, SameRun}
+use Rattle.as_rust.specs.Runs.{SameMap, SameFound, SameList, numbers-by, LogIsOurs, found-by, SameRun}
 use Rattle.as_rust.proofs.Tests.{T-true}
 use Rattle.as_rust.proofs.Map.{Left, map-as-rust}
 use Rattle.as_rust.proofs.Root.{nearest-root, nearest-roots}
@@ -105,8 +105,8 @@ written-each {A} {B} k f l old = ap (λ (r : List B). over r old) (sym same)
 module _ (m : Machine) (img : List ℕ) (w h : ℕ) (p : RadonDetectorParams) (small : Bytes img) (rust : RadonBuffers) where
   -- `radon_response_u8`: working image, tables, response and scratch are those of the Rust's text
   pub map-is-the-rusts : (b : MapBuffers) → numberOf (map-answered img w h p b) ≡ 0
-      → SameMap (sideOf w p) (sideOf h p) (p .«response_blur_radius») (map-buffersOf img w h p b) (radon-response-u8 m img w h p rust)
-  unfolding map-buffersOf
+      → SameMap (sideOf w p) (sideOf h p) (p .«response_blur_radius») (mapBuffersOf img w h p b) (radon-response-u8 m img w h p rust)
+  unfolding mapBuffersOf
   map-is-the-rusts b z =
       rw (eq-eqb (numberOf (map-answered img w h p b)) 0 z)
       (map-as-rust m img w h p b small (runs-of w h p (length img) b refl refl refl z)

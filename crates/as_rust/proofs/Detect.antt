@@ -17,18 +17,20 @@ use Rattle.grid.specs.Each.{each, keep}
 use Rattle.grid.proofs.Each.{each-more, each-none, keep-none, keep-yes, keep-no}
 use Rattle.grid.specs.Rect.{Place, place, rect, range, from, line}
 use Rattle.grid.proofs.Rect.{before}
-use Rattle.params.specs.declared.RadonDetectorParams.{RadonDetectorParams}
-use Rattle.params.specs.declared.PeakFitMode.{PeakFitMode}
-use Rattle.params.specs.declared.PeakFitMode.the-variants.{Parabolic, Gaussian}
+use Rattle.params.specs.declared.settings.RadonDetectorParams.{RadonDetectorParams}
+use Rattle.params.specs.declared.settings.PeakFitMode.{PeakFitMode}
+use Rattle.params.specs.declared.settings.PeakFitMode.the-variants.{Parabolic, Gaussian}
 use Rattle.params.specs.Settings.{factorOf, rayOf}
 use Rattle.params.specs.Coordinates.{toInput, scaleOf}
-use Rattle.params.specs.Accepted.{ListPasses}
+use Rattle.params.proofs.Accepted.{ListPasses}
 use Rattle.scalar.specs.Log.{logOf, terms, high}
 use Rattle.scalar.specs.declared.Log.the-variants.{Value}
 use Rattle.detect.specs.PeakFit.{flat, denominator, usable, allUsable, allAbove, fitOf}
-use Rattle.detect.specs.Window.{value, beaten, positives}
+use Rattle.grid.specs.Ways.{value}
+use Rattle.detect.specs.Window.{beaten, positives}
 use Rattle.detect.specs.declared.saddle.Saddle.{Saddle}
-use Rattle.detect.specs.Corners.{borderOf, candidates, peak, floorOf, firstFailing, bySaddle, isSaddle, isKept, verdict, corners, inputAt, numbers}
+use Rattle.detect.specs.Maximum.{maximum}
+use Rattle.detect.specs.Corners.{borderOf, candidates, floorOf, firstFailing, bySaddle, isSaddle, isKept, verdict, corners, inputAt, numbers}
 use Rattle.detect.proofs.AsRust.{rustClamp, rustPeak, fit-as-rust as clamped-fit}
 use Rattle.as_rust.specs.Machine.{Machine, Sound, _⊖_, _⊗_, _⊘_, lit-0, lit-1, lit-half, lit-minus-half, clamp, maxℤ, i32, usize, as-i32, as-usize, as-f32, float-at}
 use Rattle.as_rust.specs.Primitives.{peak-frac, fit-peak-frac}
@@ -235,7 +237,7 @@ module _ (m : Machine) (sound : Sound m) (v : RadonResponseView) (p : RadonDetec
   empty e = rw (e, keep-none, each-none)
 
   abbrev above : ℕ → ℕ → Bool
-  above x y = lt (t ⊗ peak w h f) (f x y)
+  above x y = lt (t ⊗ maximum w h f) (f x y)
 
   abbrev enough : ℕ → ℕ → Bool
   enough x y = leb (p .«min_cluster_size») (positives f nms (place x y))
@@ -246,9 +248,9 @@ module _ (m : Machine) (sound : Sound m) (v : RadonResponseView) (p : RadonDetec
   kept x y = tests (above x y) (not (beaten f nms (place x y))) (enough x y) (isSaddle p g (place x y))
 
   -- 89-116
-  pixel-as-rust : Good (peak w h f) → (ps : List Place) (x y : ℕ) (sink : List (List Float)) → B ≤ x → x + B < w → B ≤ y → y + B < h
+  pixel-as-rust : Good (maximum w h f) → (ps : List Place) (x y : ℕ) (sink : List (List Float)) → B ≤ x → x + B < w → B ≤ y → y + B < h
       → sink ≡ each (λ q. numbers-by m p f q ∷ []) (keep test ps)
-      → process-pixel m v p (new m (rayOf (p .«ray_radius»))) (relative-floor m t (peak w h f)) (pos nms) (lit-1 ⊘ as-f32 up) y x sink
+      → process-pixel m v p (new m (rayOf (p .«ray_radius»))) (relative-floor m t (maximum w h f)) (pos nms) (lit-1 ⊘ as-f32 up) y x sink
       ≡ each (λ q. numbers-by m p f q ∷ []) (keep test (ps ++ (place x y ∷ [])))
   unfolding process-pixel numbers-by
   pixel-as-rust best ps x y sink a b c d s =
@@ -271,7 +273,7 @@ module _ (m : Machine) (sound : Sound m) (v : RadonResponseView) (p : RadonDetec
         wide = o .bytes .wide;
         high = o .bytes .high;
       } in
-      let floored = above-as-rust m t (peak w h f) (l .least) (l .most) best (f x y) (value-held x y (omega arith) (omega arith) .0) in
+      let floored = above-as-rust m t (maximum w h f) (l .least) (l .most) best (f x y) (value-held x y (omega arith) (omega arith) .0) in
       let largest = max-as-rust m vs w h nms x y clear (o .long) in
       let counted =
       ap (λ (n : ℕ). ltb n (p .«min_cluster_size»)) (count-as-rust m vs w h nms x y clear (o .long))
@@ -318,14 +320,14 @@ module _ (m : Machine) (sound : Sound m) (v : RadonResponseView) (p : RadonDetec
         | inr z ↦ empty (low w h B (omega (arith, eqb-true h 0 z)))
       ])
       go false true e q =
-          let best : Good (peak w h f) = peak-good vs w h (o .long) (some e) (o .good) in
+          let best : Good (maximum w h f) = peak-good vs w h (o .long) (some e) (o .good) in
           rw (e, peak-as-rust vs w h (o .long) (some e) (o .good), good-finite best, ray-is, cast, cast-nms, border, twice, q)
           (elim (or-true (leb w (2 * B)) (leb h (2 * B)) q) [
             | inl z ↦ empty (narrow w h B (leb-true w (2 * B) z))
             | inr z ↦ empty (low w h B (leb-true h (2 * B) z))
           ])
       go false false e q =
-          let best : Good (peak w h f) = peak-good vs w h (o .long) (some e) (o .good) in
+          let best : Good (maximum w h f) = peak-good vs w h (o .long) (some e) (o .good) in
           let wider : 2 * B < w = leb-false w (2 * B) (or-false (leb w (2 * B)) (leb h (2 * B)) q .0) in
           let higher : 2 * B < h = leb-false h (2 * B) (or-false (leb w (2 * B)) (leb h (2 * B)) q .1) in
           rw (
@@ -343,6 +345,6 @@ module _ (m : Machine) (sound : Sound m) (v : RadonResponseView) (p : RadonDetec
             less-is m w B (omega arith),
           )
           (rect-loop (λ ps sink. sink ≡ each (λ q. numbers-by m p f q ∷ []) (keep test ps)) B (w - B) B (h - B)
-          (λ y x sink. process-pixel m v p (new m (rayOf (p .«ray_radius»))) (relative-floor m t (peak w h f)) (pos nms) (lit-1 ⊘ as-f32 up) y x sink)
+          (λ y x sink. process-pixel m v p (new m (rayOf (p .«ray_radius»))) (relative-floor m t (maximum w h f)) (pos nms) (lit-1 ⊘ as-f32 up) y x sink)
           [] (omega arith) (omega arith) (rw (keep-none, each-none))
           (λ x y sink a b c d s. pixel-as-rust best (before B (w - B) B x y) x y sink a (omega arith) c (omega arith) s))

@@ -4,7 +4,7 @@ use Prim.Native.Nat.{ℕ, _+_, _-_, _*_, _/_, _≤_, _<_, min}
 use native.Mathlib.Omega.{arith}
 use Rattle.grid.proofs.Plane.{pixel-in}
 use Rattle.grid.specs.Ways.{Inside}
-use Rattle.response.specs.Upsample.{after}
+use Rattle.upsample.specs.Upsample.{after}
 use Rattle.as_rust.proofs.Neighbors.{Clear}
 
 -- column x of row y

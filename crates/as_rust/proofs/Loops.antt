@@ -52,7 +52,7 @@ module _ {S : Type 0} where
 module _ {A : Type 0} (w h : ℕ) (g : ℕ → ℕ → A) (xs : List A) (room : w * h ≤ length xs) where
   -- a turn that stores
   pub row-put : {ys : List A} {x y : ℕ} {v : A} → Row w h g xs ys y x → x < w → v ≡ g x y → Row w h g xs (put ys (y * w + x) v) y (x + 1)
-  row-put {ys} {x} {y} {v} r b e = rw (put-is ys (y * w + x) v (omega (arith, r .long, r .room))) (row-more w h g xs r b e)
+  row-put {ys} {x} {y} {v} r b e = rw (put-is ys (y * w + x) v (omega (arith, r .steps .long, r .room))) (row-more w h g xs r b e)
 
   -- a part of a row
   pub row-part : (y lo hi : ℕ) (px : ℕ → A) {ys : List A} → lo ≤ hi → hi ≤ w → ((x : ℕ) → lo ≤ x → x < hi → px x ≡ g x y) → Row w h g xs ys y lo
@@ -67,7 +67,7 @@ pub rows-loop : {A : Type 0} (w h : ℕ) (g : ℕ → ℕ → A) (xs : List A) �
 rows-loop w h g xs room step k =
     rows-all w h g xs
     (for-keeps (λ y ys. Rows w h g xs ys y) 0 h step xs (omega arith) (rows-none w h g xs)
-    (λ y ys a b r. rows-more w h g xs r b (k y ys b (omega (arith, r .long)) (row-none w h g xs r b)) (omega arith)))
+    (λ y ys a b r. rows-more w h g xs r b (k y ys b (omega (arith, r .steps .long)) (row-none w h g xs r b)) (omega arith)))
     (omega arith)
 
 -- a value at each pixel

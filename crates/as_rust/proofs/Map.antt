@@ -17,20 +17,21 @@ use Rattle.grid.specs.Plane.{plane}
 use Rattle.grid.proofs.Plane.{plane-ext, getD-plane, pixel-in}
 use Rattle.grid.specs.Ways.{Way, along, down, fall, rise, pixel, runSum}
 use Rattle.grid.proofs.Ways.{run-ext}
-use Rattle.params.specs.declared.RadonDetectorParams.{RadonDetectorParams}
+use Rattle.params.specs.declared.settings.RadonDetectorParams.{RadonDetectorParams}
 use Rattle.params.specs.Settings.{factorOf, rayOf}
-use Rattle.response.specs.Upsample.{upAt, workAt}
-use Rattle.response.specs.Quarter.{work-most}
-use Rattle.response.specs.Response.{responseAt}
-use Rattle.response.specs.Inner.{response-ext}
-use Rattle.response.specs.Blur.{valueAt, rowMean, blurAt, scratched}
-use Rattle.response.specs.BlurLaws.{rowMean-ext, blurAt-ext}
-use Rattle.response.specs.Runs.{Runs, side-most}
+use Rattle.upsample.specs.Upsample.{upAt, workAt}
+use Rattle.upsample.proofs.RoundedQuarter.{work-most}
+use Rattle.rays.specs.Response.{responseAt}
+use Rattle.rays.proofs.Inner.{response-ext}
+use Rattle.blur.specs.Blur.{valueAt, rowMean, blurAt, scratched}
+use Rattle.blur.proofs.BlurLaws.{rowMean-ext, blurAt-ext}
+use Rattle.response.proofs.Runs.{Runs, side-most}
 use Rattle.response.specs.Map.{Buffers, rawAt, mapAt, mappedBy, mapped, sideOf}
+use Rattle.radon.specs.Finder.{Bytes}
 use Rattle.as_rust.specs.Machine.{Machine, usize, copy-from-slice, resize}
 use Rattle.as_rust.specs.Response.{RadonBuffers, Cumsums, image-upsample-clamped, ensure-capacity, upsample-bilinear-2x, sat-row, sat-col, sat-diag-pos, sat-diag-neg, compute-response, radon-response-u8}
 use Rattle.as_rust.specs.Primitives.{box-blur-inplace}
-use Rattle.as_rust.specs.Runs.{Bytes, SameMap}
+use Rattle.as_rust.specs.Runs.{SameMap}
 use Rattle.as_rust.proofs.Machine.{usize-is, copy-is, resize-long}
 use Rattle.as_rust.proofs.Upsample.{upsample-as-rust}
 use Rattle.as_rust.proofs.Tables.{run, Image, Sums, sums-fill, row-sums, column-sums, falling-sums, rising-sums}
@@ -296,8 +297,8 @@ module _ (m : Machine) (img : List ℕ) (w h : ℕ) (p : RadonDetectorParams) (b
           working = taken-same (W * H) (plane W f) (b .working) (work-is .old) (runs .working-room) (work-is .long) ∙ sym (work-is .is);
           row = table along _ (t .rows) (b .row) (runs .row-room);
           col = table down _ (t .columns) (b .col) (runs .col-room);
-          falling = table fall _ (t .falling) (b .pos) (runs .pos-room);
-          rising = table rise _ (t .rising) (b .neg) (runs .neg-room);
+          falling = table fall _ (t .falling) (b .falling) (runs .falling-room);
+          rising = table rise _ (t .rising) (b .rising) (runs .rising-room);
           response = taken-same (W * H) _ (b .response) (sized .response) (runs .response-room) (sized-is .response-long)
               ∙ sym (response-is m work W H r blur f is i sized sized-is (runs .ray-most) (runs .blur-most));
           scratch =

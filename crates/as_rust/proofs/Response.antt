@@ -16,8 +16,8 @@ use Rattle.grid.specs.Plane.{plane}
 use Rattle.grid.proofs.Loops.{Row}
 use Rattle.grid.specs.Ways.{Way, along, down, fall, rise, pixel, upTo, ray, Inside, Reach}
 use Rattle.grid.proofs.Ways.{endx, endy, lowx, lowy, none-past, run-at, ray-is, ray-most}
-use Rattle.response.specs.Response.{spread, square, responseAt}
-use Rattle.response.specs.Inner.{response-in, response-out}
+use Rattle.rays.specs.Response.{spread, square, responseAt}
+use Rattle.rays.proofs.Inner.{response-in, response-out}
 use Rattle.as_rust.specs.Machine.{Machine, lit-0, ltℤ, sat, less, entry-at, put, for, chunks}
 use Rattle.as_rust.specs.Response.{Cumsums, s-h, s-v, s-d1, s-d2, radon-response-at, compute-response-row, compute-response}
 use Rattle.as_rust.proofs.Machine.{usize-is, less-is, sat-is}

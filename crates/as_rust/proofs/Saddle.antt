@@ -19,10 +19,10 @@ use Rattle.grid.proofs.Each.{length-each}
 use Rattle.grid.specs.Rect.{Place, rect, range, from, line}
 use Rattle.grid.proofs.All.{all, all-map, all-keep, all-rect, InRect, foldl-same}
 use Rattle.grid.specs.Ways.{pixel}
-use Rattle.detect.specs.Saddle.{noSums, noMoments, side, disk, inDisk, offset, around, overDisk, momentAdded, momentsOf, meanOf, normAdded, normsOf, saddleOf, added, sumsOf, magnitude, squares, saddleAt, verdict}
-use Rattle.detect.specs.declared.saddle.Saddle.the-variants.{Yes, Flat, Curved}
+use Rattle.saddle.specs.Saddle.{noSums, noMoments, side, disk, inDisk, offset, around, overDisk, momentAdded, momentsOf, meanOf, normAdded, normsOf, saddleOf, added, sumsOf, magnitude, squares, saddleAt, byCurvatures}
+use Rattle.saddle.specs.declared.Saddle.the-variants.{Yes, Flat, Curved}
 use Rattle.detect.specs.Corners.{isKept, bySaddle}
-use Rattle.detect.proofs.Rooted.{nearestRoot, spreadSquared, trace, never-outside, by-root}
+use Rattle.saddle.proofs.Rooted.{nearestRoot, spreadSquared, trace, never-outside, by-root}
 use Rattle.as_rust.specs.Machine.{Machine, Sound, _⊕_, _⊖_, _⊗_, _⊘_, lit-0, lit-minus-0, lit-1, lit-0·2, abs, i64, as-usize, as-f32, as-f32-signed, wrapping-add-signed, byte-at}
 use Rattle.as_rust.specs.Detect.{offsets, disk as disk-of, new, accepts}
 use Rattle.as_rust.proofs.Machine.{usize-is, inside}
@@ -220,7 +220,7 @@ module _ (m : Machine) (sound : Sound m) (image : List ℕ) (w h k x y : ℕ) (l
       let root = nearestRoot (spreadSquared t s) in
       rw (new-is m k most sound, sums-are)
       (rw (by-root k (pixel image w) x y least most (c .deep))
-      (unfold squares verdict in
+      (unfold squares byCurvatures in
       rw (spread-is, abs-is, usize-is m (k * k) (omega (arith, mul-le-mul most most)))
       (go (le lit-1 (root ⊗ as-f32 (k * k))) (le (magnitude (trace t s) ⊗ (lit-1 ⊕ lit-0·2)) (root ⊗ (lit-1 ⊖ lit-0·2))))))
     where

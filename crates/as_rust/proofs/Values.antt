@@ -20,8 +20,8 @@ use Rattle.grid.specs.Fold.{fold}
 use Rattle.grid.proofs.Fold.{fold-more, fold-ext}
 use Rattle.grid.specs.Plane.{plane}
 use Rattle.detect.specs.PeakFit.{greatest, usable}
-use Rattle.detect.specs.Window.{value}
-use Rattle.detect.specs.Corners.{greater, peak}
+use Rattle.grid.specs.Ways.{value}
+use Rattle.detect.specs.Maximum.{greater, maximum}
 use Rattle.as_rust.specs.Machine.{Machine, _⊗_, lit-0, lit-1, neg-infinity, max-f32, is-finite}
 use Rattle.as_rust.specs.Detect.{relative-floor, greatest as greatest-of}
 use Rattle.as_rust.proofs.Tests.{T-true}
@@ -137,16 +137,16 @@ module _ (vs : List Float) (w h : ℕ) (long : length vs ≡ w * h) (some : 0 < 
   unfolding plane
   flat-is k = sym (ap (λ (j : ℕ). getD vs j nan) (div-add-mod' k w))
 
-  pub peak-as-rust : greatest-of vs ≡ peak w h (value vs w)
-  unfolding peak greatest-of
+  pub peak-as-rust : greatest-of vs ≡ maximum w h (value vs w)
+  unfolding maximum greatest-of
   peak-as-rust = indexed neg-infinity vs ∙ rw long (go (w * h) refl some)
     where
       go : (n : ℕ) → n ≡ w * h → 0 < n → fold greater neg-infinity (λ k. getD vs k nan) n ≡ fold greater lit-0 (plane w (value vs w)) n
       go zero e b = absurd (omega arith)
       go (suc n) e b = from-below _ n (λ k c. good-above _ (good k (omega arith))) ∙ fold-ext greater lit-0 _ _ (suc n) (λ k c. flat-is k)
 
-  pub peak-good : Good (peak w h (value vs w))
-  unfolding peak
+  pub peak-good : Good (maximum w h (value vs w))
+  unfolding maximum
   peak-good = good-fold _ (w * h) (λ k b. rw (← flat-is k) (good k b))
 
 -- ---- 151-153: the floor

@@ -7,8 +7,8 @@ use lib.Ieee.{Float, binary32, ofBits, toBits, ofInt, toSigned, toUnsigned, isNa
 use Rattle.grid.specs.Each.{each, keep}
 use Rattle.grid.specs.Rect.{range, from}
 use Rattle.scalar.specs.Root.{rootBits}
-use Rattle.params.specs.declared.RadonDetectorParams.{RadonDetectorParams}
-use Rattle.params.specs.declared.PeakFitMode.the-variants.{Parabolic}
+use Rattle.params.specs.declared.settings.RadonDetectorParams.{RadonDetectorParams}
+use Rattle.params.specs.declared.settings.PeakFitMode.the-variants.{Parabolic}
 use Rattle.as_rust.specs.Machine.{sat, floor, rounded, clamp, max-f32, abs, i64, i32, usize, u32, less, put, copy-from-slice, resize, times, for-signed, chunks}
 use Rattle.as_rust.specs.Primitives.{peak-frac, fit-peak-frac, horiz-px, horiz-kernel, vert-kernel, box-blur-inplace}
 use Rattle.as_rust.specs.Response.{s-h, s-v, s-d1, s-d2, new, ensure-capacity, out-px, row-kernel, upsample-bilinear-2x, sat-row, sat-col, sat-diag-pos, sat-diag-neg, radon-response-at, compute-response-row, compute-response, radon-response-u8}

@@ -140,7 +140,7 @@ is-finite (inf s) = false
 is-finite (fin s k e) = true
 
 -- ---- integers: i64, i32 and isize are ℤ, usize, u32 and u8 are ℕ, and isize and usize have 64 bits. The settings' u32s are any ℕ; an image's bytes
--- are below 256 by `Bytes` of Runs, and what is stored as a byte comes from `to-u8`.
+-- are below 256 by `Bytes` of crates/radon/specs/Finder, and what is stored as a byte comes from `to-u8`.
 
 -- `a < b` on i64, i32 or isize
 abbrev pub ltℤ : ℤ → ℤ → Bool

@@ -7,8 +7,8 @@ use lib.Dec.{ltb, leb, eqb}
 use lib.ListN.{length}
 use lib.IntN.{ℤ, pos, _+ℤ_, _-ℤ_}
 use lib.Ieee.{Float}
-use Rattle.params.specs.declared.RadonDetectorParams.{RadonDetectorParams}
-use Rattle.params.specs.declared.PeakFitMode.the-variants.{Gaussian}
+use Rattle.params.specs.declared.settings.RadonDetectorParams.{RadonDetectorParams}
+use Rattle.params.specs.declared.settings.PeakFitMode.the-variants.{Gaussian}
 use Rattle.as_rust.specs.Machine.{Machine, _⊕_, _⊖_, _⊗_, lit-0, lit-1, lit-half, lit-255, lit-0·28, floor, rounded, clamp, ltℤ, maxℤ, sat, usize, less, as-usize, as-f32, as-f32-signed, to-isize, to-u8, byte-at, entry-at, put, copy-from-slice, resize, for, chunks}
 use Rattle.as_rust.specs.Primitives.{box-blur-inplace}
 

@@ -4,15 +4,15 @@ use mathlib.Core.Path.{_≡_}
 use mathlib.Core.List.{List, [], _∷_, map}
 use Prim.Native.Nat.{ℕ, _+_, _-_, _*_, _<_}
 use lib.Dec.{T}
-use lib.ListN.{length, getD, take}
+use lib.ListN.{length, take}
 use lib.IntN.{pos}
 use lib.Ieee.{Float, lt}
 use Rattle.grid.specs.Ways.{pixel}
 use Rattle.grid.specs.Each.{each}
 use Rattle.grid.specs.Rect.{Place}
 use Rattle.grid.specs.Over.{written}
-use Rattle.params.specs.declared.RadonDetectorParams.{RadonDetectorParams}
-use Rattle.params.specs.declared.Outcome.{Outcome}
+use Rattle.params.specs.declared.settings.RadonDetectorParams.{RadonDetectorParams}
+use Rattle.params.specs.declared.answers.Outcome.{Outcome}
 use Rattle.params.specs.Settings.{factorOf}
 use Rattle.scalar.specs.Log.{logOf, terms, high}
 use Rattle.scalar.specs.declared.Log.the-variants.{Value}
@@ -23,10 +23,6 @@ use Rattle.as_rust.specs.Primitives.{fit-peak-frac}
 use Rattle.as_rust.specs.Response.{RadonBuffers, view}
 use Rattle.as_rust.specs.Detect.{detect-peaks-from-radon}
 
--- an image of bytes
-abbrev pub Bytes : List ℕ → Type 0
-Bytes img = (k : ℕ) → getD img k 0 < 256
-
 -- The first n = W·H entries of our buffers are the Rust's, which has no more; the tables as numbers; the scratch where there is a blur.
 pub record SameMap (w h blur : ℕ) (ours : Buffers) (rust : RadonBuffers) : Type 0 where
   pub width : rust .working-w ≡ w
@@ -34,8 +30,8 @@ pub record SameMap (w h blur : ℕ) (ours : Buffers) (rust : RadonBuffers) : Typ
   pub working : take (w * h) (ours .working) ≡ rust .working
   pub row : map pos (take (w * h) (ours .row)) ≡ rust .row-cumsum
   pub col : map pos (take (w * h) (ours .col)) ≡ rust .col-cumsum
-  pub falling : map pos (take (w * h) (ours .pos)) ≡ rust .diag-pos-cumsum
-  pub rising : map pos (take (w * h) (ours .neg)) ≡ rust .diag-neg-cumsum
+  pub falling : map pos (take (w * h) (ours .falling)) ≡ rust .diag-pos-cumsum
+  pub rising : map pos (take (w * h) (ours .rising)) ≡ rust .diag-neg-cumsum
   pub response : take (w * h) (ours .response) ≡ rust .response
   pub scratch : 0 < blur → take (w * h) (ours .scratch) ≡ rust .blur-scratch
 

@@ -16,26 +16,8 @@ fn main() {
         os::fail(b"corners: standard input");
         return;
     };
-    let mut working = [0u8; 2304];
-    let mut row = [0u32; 2304];
-    let mut col = [0u32; 2304];
-    let mut pos = [0u32; 2304];
-    let mut neg = [0u32; 2304];
-    let mut response = [0.0f32; 2304];
-    let mut scratch = [0.0f32; 2304];
     let mut list = [0.0f32; 768];
-    let outcome = runner::answer(
-        &input,
-        got,
-        &mut working,
-        &mut row,
-        &mut col,
-        &mut pos,
-        &mut neg,
-        &mut response,
-        &mut scratch,
-        &mut list,
-    );
+    let outcome = frame_runner::answer(&input, got, &mut list);
     if !print(outcome, &list) {
         os::fail(b"corners: standard output");
     }

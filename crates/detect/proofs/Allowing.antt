@@ -8,20 +8,19 @@ use mathlib.Core.List.{List}
 use lib.ListN.{length}
 use lib.Dec.{ltb, leb, eqb}
 use lib.Ieee.{Float}
-use Rattle.grid.specs.Over.{written}
-use Rattle.params.specs.declared.Answer.{Answer}
-use Rattle.params.specs.declared.Answer.the-variants.{Complete, ListFull, SideTooLong, TooManyPixels}
-use Rattle.params.specs.declared.Outcome.{Outcome}
-use Rattle.params.specs.declared.RadonDetectorParams.{RadonDetectorParams}
+use Rattle.params.specs.declared.answers.Answer.{Answer}
+use Rattle.params.specs.declared.answers.Answer.the-variants.{Complete, ListFull, SideTooLong, TooManyPixels}
+use Rattle.params.specs.declared.answers.Outcome.{Outcome}
+use Rattle.params.specs.declared.settings.RadonDetectorParams.{RadonDetectorParams}
 use Rattle.params.specs.Answers.{numberOf, refused}
 use Rattle.params.specs.Refusals.{pick, orElse, mapRefusal, listRefusal, roomRefusal}
-use Rattle.params.specs.Accepted.{both-pass, map-passes, list-passes, room-passes}
-use Rattle.detect.specs.Window.{value}
-use Rattle.detect.specs.Corners.{numbers, stride}
-use Rattle.detect.specs.Detected.{workingRefusal, peaksRefusal, refusalFor, foundIn, fullOr, outcomeOf, listOf}
-use Rattle.detect.specs.Scan.{Asked}
+use Rattle.params.proofs.Accepted.{both-pass, map-passes, list-passes, room-passes}
+use Rattle.detect.specs.declared.verdict.Scan.{Scan}
+use Rattle.detect.specs.Corners.{stride}
+use Rattle.detect.specs.Detected.{workingRefusal, peaksRefusal, refusalFor, fullOr, peaksOutcome, listOf}
+use Rattle.detect.specs.Scan.{scanOf, Asked, Found}
 
-passed : (p q t : Bool) → numberOf (pick (p || q) SideTooLong (pick t TooManyPixels Complete)) ≡ 0 → (p ≡ false) × (q ≡ false)
+passed : (p q t : Bool) → numberOf (cond (p || q) SideTooLong (cond t TooManyPixels Complete)) ≡ 0 → (p ≡ false) × (q ≡ false)
 passed true q t e = absurd (omega arith)
 passed false true t e = absurd (omega arith)
 passed false false t e = (refl, refl)
@@ -42,7 +41,14 @@ asked s w h a b e =
     let map = map-passes s (y .0) in
     let list = list-passes s (z .0) in
     let room = room-passes (w * h) (min a b) (z .1) in
-    record { wide = size .0; high = size .1; ray = map .ray; suppression = list .suppression; response = omega arith; working = omega arith }
+    record {
+      wide = size .0;
+      high = size .1;
+      ray = map .ray;
+      suppression = list .suppression;
+      response = omega arith;
+      working = omega arith;
+    }
 
 -- all are stored where all have room
 leb-min : (a b : ℕ) → leb a (min a b) ≡ leb a b
@@ -57,9 +63,14 @@ all-stored found room e f = f ∙ ap (fullOr found) e ∙ ap (λ (t : Bool). con
 
 -- ---- the two ends of a call, from the answer a of the judge and its number n
 
-module _ (s : RadonDetectorParams) (w h : ℕ) (resp : List Float) (image : List ℕ) (old : List Float) {a : Answer} {n : ℕ} (is : a ≡ refusalFor s w h resp image) (number : n ≡ numberOf a) where
-  pub refuses : {r : Outcome} → (n ≡ 0 → ⊥) → r ≡ refused a → (r ≡ outcomeOf s w h resp image (length old)) × (old ≡ listOf s w h resp image old)
-  unfolding outcomeOf listOf
+module _ (s : RadonDetectorParams) (w h : ℕ) (resp : List Float) (image : List ℕ) (old : List Float) {a : Answer} {n : ℕ}
+    (is : a ≡ refusalFor s w h resp image) (number : n ≡ numberOf a) where
+  -- the two promises, of what is answered and of what the list holds
+  abbrev Promised : Outcome → List Float → Type 0
+  Promised r out = (r ≡ peaksOutcome s w h resp image (length old)) × (out ≡ listOf s w h resp image old)
+
+  pub refuses : {r : Outcome} → (n ≡ 0 → ⊥) → r ≡ refused a → Promised r old
+  unfolding peaksOutcome listOf
   refuses z e =
       let q : eqb (numberOf (refusalFor s w h resp image)) 0 ≡ false = ne-eqb _ 0 (λ u. z (number ∙ ap numberOf is ∙ u)) in
       rw q (e ∙ ap refused is, refl)
@@ -67,10 +78,10 @@ module _ (s : RadonDetectorParams) (w h : ℕ) (resp : List Float) (image : List
   pub passes-on : n ≡ 0 → Asked s w h (length resp) (length image)
   passes-on z = asked s w h (length resp) (length image) (ap numberOf (sym is) ∙ sym number ∙ z)
 
-  pub answers : {found : ℕ} {out : List Float} {r : Answer} → n ≡ 0 → found ≡ length (foundIn s w h resp image)
-      → out ≡ written stride (numbers s (value resp w)) (foundIn s w h resp image) old → r ≡ fullOr found (length old / stride)
-      → (_≡_ {A = Outcome} (record { answer = r; count = found; w = w; h = h }) (outcomeOf s w h resp image (length old))) × (out ≡ listOf s w h resp image old)
-  unfolding outcomeOf listOf
-  answers z c o e =
+  pub answers : {c : Scan} {found : ℕ} {out : List Float} {r : Answer} → n ≡ 0 → c ≡ scanOf s w h resp → Found c resp image old found out
+      → r ≡ fullOr found (length old / stride) → Promised (record { answer = r; count = found; w = w; h = h }) out
+  unfolding peaksOutcome listOf
+  answers z by t e =
       let q : eqb (numberOf (refusalFor s w h resp image)) 0 ≡ true = eq-eqb _ 0 (ap numberOf (sym is) ∙ sym number ∙ z) in
-      rw q (rw (e, c), o)
+      let f = rw by at t in
+      rw q (rw (e, f .count), f .list)

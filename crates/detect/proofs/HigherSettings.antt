@@ -1,5 +1,5 @@
--- Demand 3, "higher threshold fraction, higher least count, or both": what is found is exactly the lower's corners that pass the higher floor and count,
--- in order and bit for bit, for every map: values that are infinite or no number included. Assumes nothing.
+-- Demand 3, "higher threshold fraction, higher least count, or both": what is found is exactly the lower's corners that pass the higher
+-- floor and count, in order and bit for bit, for every map: values that are infinite or no number included. Assumes nothing.
 use mathlib.Core.Path.{_≡_, refl, sym, ap, _∙_}
 use mathlib.Core.Bool.{Bool, true, false, not, _&&_, and-false}
 use Prim.Native.Nat.{ℕ, _*_, _/_, _≤_}
@@ -18,17 +18,18 @@ use Rattle.grid.specs.Rect.{Place}
 use Rattle.grid.specs.Over.{written}
 use Rattle.grid.proofs.Over.{opening}
 use Rattle.grid.specs.Ways.{pixel}
-use Rattle.params.specs.declared.RadonDetectorParams.{RadonDetectorParams}
+use Rattle.params.specs.declared.settings.RadonDetectorParams.{RadonDetectorParams}
 use Rattle.params.specs.Answers.{numberOf}
 use Rattle.params.specs.Refusals.{listRefusal, mapRefusal}
-use Rattle.params.specs.Accepted.{ListPasses, both-pass, list-passes}
+use Rattle.params.proofs.Accepted.{ListPasses, both-pass, list-passes}
 use Rattle.detect.specs.declared.saddle.Saddle.{Saddle}
 use Rattle.detect.specs.declared.saddle.Saddle.the-variants.{Yes, Flat, Curved}
-use Rattle.detect.specs.Window.{at, value, beaten, positives}
-use Rattle.detect.specs.Corners.{borderOf, candidates, peak, floorOf, firstFailing, isSaddle, isKept, verdict, corners, numbers, stride}
+use Rattle.detect.specs.Window.{at, beaten, positives}
+use Rattle.detect.specs.Maximum.{maximum}
+use Rattle.detect.specs.Corners.{borderOf, candidates, floorOf, firstFailing, isSaddle, isKept, verdict, corners, numbers, stride}
 use Rattle.detect.specs.Detected.{workingRefusal, peaksRefusal, refusalFor, foundIn, listOf}
 use Rattle.detect.proofs.Scanning.{numbers-long}
-use Rattle.detect.proofs.Kept.{peak-nonneg}
+use Rattle.detect.proofs.Kept.{maximum-nonneg}
 
 -- the same settings with another fraction and another least count
 abbrev pub raised : RadonDetectorParams → Float → ℕ → RadonDetectorParams
@@ -47,7 +48,8 @@ abbrev pub passesHigher : RadonDetectorParams → ℕ → ℕ → (ℕ → ℕ �
 passesHigher s w h f p = lt (floorOf s w h f) (at f p) && leb (s .«min_cluster_size») (positives f (s .«nms_radius») p)
 
 -- of the four rules the first and the third are sharper
-narrower : (a a′ m e e′ : Bool) (t : Saddle) → (T a′ → T a) → (T e′ → T e) → isKept (firstFailing a′ m e′ t) ≡ isKept (firstFailing a m e t) && (a′ && e′)
+narrower : (a a′ m e e′ : Bool) (t : Saddle) → (T a′ → T a) → (T e′ → T e)
+    → isKept (firstFailing a′ m e′ t) ≡ isKept (firstFailing a m e t) && (a′ && e′)
 narrower a false m e e′ t f g = rw and-false
 narrower a true false e false t f g = rw and-false
 narrower a true true e false t f g = rw and-false
@@ -63,61 +65,82 @@ module _ (s : RadonDetectorParams) (t : Float) (n w h : ℕ) (f : ℕ → ℕ �
   pub higher-floor : T (le f0 (s .«threshold_rel»)) → T (le (s .«threshold_rel») t) → T (le f0 t) → T (le t f1)
       → (v : Float) → T (lt (floorOf (raised s t n) w h f) v) → T (lt (floorOf s w h f) v)
   unfolding floorOf
-  higher-floor a b c d v k = fraction-lower (s .«threshold_rel») t (peak w h f) v a b c d (peak-nonneg w h f) k
+  higher-floor a b c d v k = fraction-lower (s .«threshold_rel») t (maximum w h f) v a b c d (maximum-nonneg w h f) k
 
-  pub higher-corners : (g : ℕ → ℕ → ℕ) → T (le f0 (s .«threshold_rel»)) → T (le (s .«threshold_rel») t) → T (le f0 t) → T (le t f1) → s .«min_cluster_size» ≤ n
+  -- and a higher count asks no less
+  higher-count : s .«min_cluster_size» ≤ n → (m : ℕ) → T (leb n m) → T (leb (s .«min_cluster_size») m)
+  higher-count l m k = le→leb (s .«min_cluster_size») m (omega (arith, leb→le n m k))
+
+  pub higher-corners : (g : ℕ → ℕ → ℕ) → T (le f0 (s .«threshold_rel»)) → T (le (s .«threshold_rel») t) → T (le f0 t) → T (le t f1)
+      → s .«min_cluster_size» ≤ n
       → corners (raised s t n) w h f g ≡ keep (passesHigher (raised s t n) w h f) (corners s w h f g)
   unfolding corners verdict
   higher-corners g a b c d l =
       keep-ext _ _ (λ p. narrower (lt (floorOf s w h f) (at f p)) (lt (floorOf (raised s t n) w h f) (at f p)) (not (beaten f (s .«nms_radius») p))
       (leb (s .«min_cluster_size») (positives f (s .«nms_radius») p)) (leb n (positives f (s .«nms_radius») p)) (isSaddle s g p)
-      (higher-floor a b c d (at f p)) (λ k. le→leb (s .«min_cluster_size») (positives f (s .«nms_radius») p) (omega (arith, leb→le n (positives f (s .«nms_radius») p) k)))) (candidates w h (borderOf s))
+      (higher-floor a b c d (at f p)) (higher-count l (positives f (s .«nms_radius») p))) (candidates w h (borderOf s))
       ∙ sym (keep-keep (λ p. isKept (verdict s (floorOf s w h f) f g p)) (passesHigher (raised s t n) w h f) (candidates w h (borderOf s)))
 
 -- ---- the same of what `detect_peaks_from_radon` writes
 
-pub accepted-list : (s : RadonDetectorParams) (w h : ℕ) (resp : List Float) (image : List ℕ) (old : List Float) → numberOf (refusalFor s w h resp image) ≡ 0
-    → listOf s w h resp image old ≡ written stride (numbers s (value resp w)) (foundIn s w h resp image) old
-unfolding listOf
-accepted-list s w h resp image old e = rw (eq-eqb _ 0 e)
+module _ (s : RadonDetectorParams) (w h : ℕ) (resp : List Float) (image : List ℕ) where
+  -- the call with these settings is accepted
+  abbrev Accepted : Type 0
+  Accepted = numberOf (refusalFor s w h resp image) ≡ 0
 
--- an accepted call with room writes all that it finds
-pub whole-list : (s : RadonDetectorParams) (w h : ℕ) (resp : List Float) (image : List ℕ) (old : List Float) → numberOf (refusalFor s w h resp image) ≡ 0
-    → length (foundIn s w h resp image) ≤ length old / stride
-    → take (stride * length (foundIn s w h resp image)) (listOf s w h resp image old) ≡ each (numbers s (value resp w)) (foundIn s w h resp image)
-whole-list s w h resp image old e r =
-    rw (accepted-list s w h resp image old e)
-    (opening stride (numbers s (value resp w)) (numbers-long s (value resp w)) (foundIn s w h resp image) (length (foundIn s w h resp image)) old r (omega arith)
-    ∙ ap (each (numbers s (value resp w))) (take-length (foundIn s w h resp image)))
+  -- the numbers of all its corners, one after the other
+  abbrev allNumbers : List Float
+  allNumbers = each (numbers s (value resp w)) (foundIn s w h resp image)
 
--- settings that are accepted are in range
-in-range : (s : RadonDetectorParams) (w h : ℕ) (resp : List Float) (image : List ℕ) → numberOf (refusalFor s w h resp image) ≡ 0 → ListPasses s
-unfolding peaksRefusal
-in-range s w h resp image e = list-passes s (both-pass (listRefusal s) _ (both-pass (mapRefusal s) _ (both-pass (workingRefusal w h) _ e .1) .1) .0)
+  -- the entries that they take
+  abbrev whole : ℕ
+  whole = stride * length (foundIn s w h resp image)
 
--- Both calls are accepted, the fraction and the least count are no lower, and both lists have room for all of the lower's: the higher's list is the lower's, filtered.
-pub record Filtered (s : RadonDetectorParams) (t : Float) (n w h : ℕ) (resp : List Float) (image : List ℕ) (low high : List Float) : Type 0 where
-  pub lower : take (stride * length (foundIn s w h resp image)) (listOf s w h resp image low) ≡ each (numbers s (value resp w)) (foundIn s w h resp image)
-  pub found : foundIn (raised s t n) w h resp image ≡ keep (passesHigher (raised s t n) w h (value resp w)) (foundIn s w h resp image)
-  pub higher : take (stride * length (foundIn (raised s t n) w h resp image)) (listOf (raised s t n) w h resp image high)
-      ≡ each (numbers s (value resp w)) (keep (passesHigher (raised s t n) w h (value resp w)) (foundIn s w h resp image))
+  pub accepted-list : (old : List Float) → Accepted
+      → listOf s w h resp image old ≡ written stride (numbers s (value resp w)) (foundIn s w h resp image) old
+  unfolding listOf
+  accepted-list old e = rw (eq-eqb _ 0 e)
+
+  -- an accepted call with room writes all that it finds
+  pub whole-list : (old : List Float) → Accepted → length (foundIn s w h resp image) ≤ length old / stride
+      → take whole (listOf s w h resp image old) ≡ allNumbers
+  whole-list old e r =
+      let f = numbers s (value resp w) in
+      let l = foundIn s w h resp image in
+      rw (accepted-list old e) (opening stride f (numbers-long s (value resp w)) l (length l) old r (omega arith) ∙ ap (each f) (take-length l))
+
+  -- settings that are accepted are in range
+  in-range : Accepted → ListPasses s
+  unfolding peaksRefusal
+  in-range e = list-passes s (both-pass (listRefusal s) _ (both-pass (mapRefusal s) _ (both-pass (workingRefusal w h) _ e .1) .1) .0)
 
 most : (p : Place → Bool) (l : List Place) → length (keep p l) ≤ length l
 unfolding count
 most p l = count-most p l
 
-pub higher-list : (s : RadonDetectorParams) (t : Float) (n w h : ℕ) (resp : List Float) (image : List ℕ) (low high : List Float)
-    → numberOf (refusalFor s w h resp image) ≡ 0 → numberOf (refusalFor (raised s t n) w h resp image) ≡ 0 → T (le (s .«threshold_rel») t) → s .«min_cluster_size» ≤ n
-    → length (foundIn s w h resp image) ≤ length low / stride → length (foundIn s w h resp image) ≤ length high / stride → Filtered s t n w h resp image low high
-unfolding numbers
-higher-list s t n w h resp image low high a b c d e r =
-    let f = value resp w in
-    let p = in-range s w h resp image a in
-    let q = in-range (raised s t n) w h resp image b in
-    let same = higher-corners s t n w h f (pixel image w) (p .least) c (q .least) (q .most) d in
-    let fewer : length (foundIn (raised s t n) w h resp image) ≤ length (foundIn s w h resp image) = rw same (most (passesHigher (raised s t n) w h f) (foundIn s w h resp image)) in
-    record {
-      lower = whole-list s w h resp image low a e;
-      found = same;
-      higher = whole-list (raised s t n) w h resp image high b (omega arith) ∙ ap (each (numbers s f)) same;
-    }
+-- Both calls are accepted, the fraction and the least count are no lower, and both lists have room for all of the lower's: the higher's list
+-- is the lower's, filtered.
+module _ (s : RadonDetectorParams) (t : Float) (n w h : ℕ) (resp : List Float) (image : List ℕ) (low high : List Float) where
+  -- the lower's corners that pass the higher floor and count
+  abbrev passing : List Place
+  passing = keep (passesHigher (raised s t n) w h (value resp w)) (foundIn s w h resp image)
+
+  pub record Filtered : Type 0 where
+    pub lower : take (whole s w h resp image) (listOf s w h resp image low) ≡ allNumbers s w h resp image
+    pub found : foundIn (raised s t n) w h resp image ≡ passing
+    pub higher : take (whole (raised s t n) w h resp image) (listOf (raised s t n) w h resp image high) ≡ each (numbers s (value resp w)) passing
+
+  pub higher-list : Accepted s w h resp image → Accepted (raised s t n) w h resp image → T (le (s .«threshold_rel») t) → s .«min_cluster_size» ≤ n
+      → length (foundIn s w h resp image) ≤ length low / stride → length (foundIn s w h resp image) ≤ length high / stride → Filtered
+  unfolding numbers
+  higher-list a b c d e r =
+      let f = value resp w in
+      let p = in-range s w h resp image a in
+      let q = in-range (raised s t n) w h resp image b in
+      let same = higher-corners s t n w h f (pixel image w) (p .least) c (q .least) (q .most) d in
+      let fewer : length (foundIn (raised s t n) w h resp image) ≤ length (foundIn s w h resp image) = rw same (most _ (foundIn s w h resp image)) in
+      record {
+        lower = whole-list s w h resp image low a e;
+        found = same;
+        higher = whole-list (raised s t n) w h resp image high b (omega arith) ∙ ap (each (numbers s f)) same;
+      }

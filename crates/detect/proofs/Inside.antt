@@ -1,14 +1,13 @@
--- The list depends only on what map and image have inside W by H: two maps and two images that agree there have the same corners with the same numbers.
--- Assumes nothing.
-use mathlib.Core.Path.{_≡_, refl, sym, ap, _∙_}
+-- The list depends only on what map and image have inside W by H: two maps and two images that agree there have the same corners with the
+-- same numbers. Assumes nothing.
+use mathlib.Core.Path.{_≡_, ap, _∙_}
 use mathlib.Core.Bool.{Bool, not, _&&_}
-use mathlib.Core.List.{List, [], _∷_}
+use mathlib.Core.List.{List}
 use Prim.Native.Nat.{ℕ, _+_, _-_, _*_, _/_, _≤_, _<_}
 use native.Mathlib.Omega.{arith}
 use lib.ListN.{length, take}
 use lib.Dec.{leb}
-use lib.IntN.{pos}
-use lib.Ieee.{Float, binary32, lt, mul, ofInt}
+use lib.Ieee.{Float, binary32, lt, mul}
 use Rattle.float.specs.Values.{f0}
 use Rattle.grid.proofs.Fold.{fold-ext}
 use Rattle.grid.specs.Plane.{plane}
@@ -17,40 +16,14 @@ use Rattle.grid.specs.Each.{each, keep, any, count}
 use Rattle.grid.specs.Rect.{Place, place, rect}
 use Rattle.grid.specs.Over.{over, written}
 use Rattle.grid.proofs.All.{all, all-map, all-keep, all-take, all-rect, Between, InRect, each-same, keep-same, any-same, foldl-same}
-use Rattle.params.specs.declared.RadonDetectorParams.{RadonDetectorParams}
+use Rattle.params.specs.declared.settings.RadonDetectorParams.{RadonDetectorParams}
 use Rattle.params.specs.Settings.{rayOf}
 use Rattle.detect.specs.declared.saddle.SaddleTest.{SaddleTest}
 use Rattle.detect.specs.declared.saddle.Sums.{Sums}
-use Rattle.detect.specs.declared.verdict.Verdict.{Verdict}
 use Rattle.detect.specs.Saddle.{side, disk, inDisk, offset, overDisk, added, around, noSums, sumsOf, saddleAt, saddleOf, judge}
+use Rattle.detect.specs.Maximum.{greater, maximum}
 use Rattle.detect.specs.Window.{at, window, same, beaten, positives}
-use Rattle.detect.specs.Corners.{borderOf, candidates, greater, peak, floorOf, firstFailing, isSaddle, isKept, verdict, corners, offsetX, offsetY, inputAt, numbers, stride}
-
--- k around x and y lies inside
-pub record Clear (w h k x y : ℕ) : Type 0 where
-  pub left : k ≤ x
-  pub right : x + k < w
-  pub above : k ≤ y
-  pub below : y + k < h
-
--- ---- the saddle test
-
-saddle-same : (t : SaddleTest) (k : ℕ) (f g : ℕ → ℕ → ℕ) (w h x y : ℕ) → Clear w h k x y → ((x y : ℕ) → x < w → y < h → f x y ≡ g x y) → saddleAt t k f x y ≡ saddleAt t k g x y
-unfolding saddleAt sumsOf overDisk disk
-saddle-same t k f g w h x y m e =
-    ap (judge t k) (foldl-same (step f) (step g) noSums (keep (inDisk k) square) (all-keep Same (inDisk k) square (all-map (InRect 0 (side k) 0 (side k)) Same at-place square (all-rect 0 (side k) 0 (side k)))))
-  where
-    square : List Place
-    square = rect 0 (side k) 0 (side k)
-
-    step : (ℕ → ℕ → ℕ) → Sums → Place → Sums
-    step f s p = added t (offset k (p .x)) (offset k (p .y)) (around k f x y p) s
-
-    Same : Place → Type 0
-    Same p = (s : Sums) → step f s p ≡ step g s p
-
-    at-place : (p : Place) → InRect 0 (side k) 0 (side k) p → Same p
-    at-place p b s = ap (λ (n : ℕ). added t (offset k (p .x)) (offset k (p .y)) (ofInt binary32 (pos n)) s) (e (x + p .x - k) (y + p .y - k) (omega arith) (omega arith))
+use Rattle.detect.specs.Corners.{borderOf, candidates, floorOf, firstFailing, isKept, verdict, corners, numbers, stride}
 
 -- ---- the window
 
@@ -63,32 +36,42 @@ module _ (f g : ℕ → ℕ → Float) (w h r x y : ℕ) (m : Clear w h r x y) (
   Alike q = at f q ≡ at g q
 
   window-same : all Alike (window r (place x y))
-  window-same = all-map (InRect (x - r) (x + r + 1) (y - r) (y + r + 1)) Alike (λ q b. e (q .x) (q .y) (omega arith) (omega arith)) (window r (place x y)) (all-rect (x - r) (x + r + 1) (y - r) (y + r + 1))
+  window-same =
+      all-map (InRect (x - r) (x + r + 1) (y - r) (y + r + 1)) Alike (λ q b. e (q .x) (q .y) (omega arith) (omega arith)) (window r (place x y))
+      (all-rect (x - r) (x + r + 1) (y - r) (y + r + 1))
 
   beaten-same : beaten f r (place x y) ≡ beaten g r (place x y)
   unfolding beaten
-  beaten-same = any-same _ _ _ (all-map Alike (λ q. lt (f x y) (at f q) ≡ lt (g x y) (at g q)) (λ q b. λ i. lt (here i) (b i)) (window r (place x y)) window-same)
+  beaten-same =
+      any-same _ _ _
+      (all-map Alike (λ q. lt (f x y) (at f q) ≡ lt (g x y) (at g q)) (λ q b. λ i. lt (here i) (b i)) (window r (place x y)) window-same)
+
+  -- a value v at q counts as a positive neighbour
+  abbrev counts : Place → Float → Bool
+  counts q v = lt f0 v && not (same q (place x y))
 
   positives-same : positives f r (place x y) ≡ positives g r (place x y)
   unfolding positives count
   positives-same =
       ap length
       (keep-same _ _ _
-      (all-map Alike (λ q. lt f0 (at f q) && not (same q (place x y)) ≡ lt f0 (at g q) && not (same q (place x y))) (λ q b. ap (λ (v : Float). lt f0 v && not (same q (place x y))) b) (window r (place x y)) window-same))
+      (all-map Alike (λ q. counts q (at f q) ≡ counts q (at g q)) (λ q b. ap (counts q) b) (window r (place x y)) window-same))
 
 -- ---- the list
 
-module _ (s : RadonDetectorParams) (w h : ℕ) (f g : ℕ → ℕ → Float) (a b : ℕ → ℕ → ℕ) (e : (x y : ℕ) → x < w → y < h → f x y ≡ g x y) (d : (x y : ℕ) → x < w → y < h → a x y ≡ b x y) where
-  pub peak-same : peak w h f ≡ peak w h g
-  unfolding peak plane
-  peak-same = fold-ext greater f0 _ _ (w * h) (λ i l. e _ _ (column-in w h l) (row-number-in w h l))
+module _ (s : RadonDetectorParams) (w h : ℕ) (f g : ℕ → ℕ → Float) (a b : ℕ → ℕ → ℕ)
+    (e : (x y : ℕ) → x < w → y < h → f x y ≡ g x y) (d : (x y : ℕ) → x < w → y < h → a x y ≡ b x y) where
+  pub maximum-same : maximum w h f ≡ maximum w h g
+  unfolding maximum plane
+  maximum-same = fold-ext greater f0 _ _ (w * h) (λ i l. e _ _ (column-in w h l) (row-number-in w h l))
 
   pub floor-same : floorOf s w h f ≡ floorOf s w h g
   unfolding floorOf
-  floor-same = ap (mul binary32 (s .«threshold_rel»)) peak-same
+  floor-same = ap (mul binary32 (s .«threshold_rel»)) maximum-same
 
   -- a candidate is clear of the edges by the suppression radius, by the ray radius and by one
-  verdict-same : (floor : Float) (x y : ℕ) → Clear w h (s .«nms_radius») x y → Clear w h (rayOf (s .«ray_radius»)) x y → verdict s floor f a (place x y) ≡ verdict s floor g b (place x y)
+  verdict-same : (floor : Float) (x y : ℕ) → Clear w h (s .«nms_radius») x y → Clear w h (rayOf (s .«ray_radius»)) x y
+      → verdict s floor f a (place x y) ≡ verdict s floor g b (place x y)
   unfolding verdict
   verdict-same floor x y m n = λ i.
       firstFailing (lt floor (here f g w h (s .«nms_radius») x y m e i)) (not (beaten-same f g w h (s .«nms_radius») x y m e i))
@@ -108,7 +91,8 @@ module _ (s : RadonDetectorParams) (w h : ℕ) (f g : ℕ → ℕ → Float) (a 
       ap (λ floor. keep (λ p. isKept (verdict s floor f a p)) (candidates w h (borderOf s))) floor-same
       ∙ keep-same _ _ (candidates w h (borderOf s))
       (all-map Candidate (λ p. isKept (verdict s (floorOf s w h g) f a p) ≡ isKept (verdict s (floorOf s w h g) g b p))
-      (λ p c. ap isKept (verdict-same (floorOf s w h g) (p .x) (p .y) (clear (s .«nms_radius») (omega arith) p c) (clear (rayOf (s .«ray_radius»)) (omega arith) p c)))
+      (λ p c. ap isKept (verdict-same (floorOf s w h g) (p .x) (p .y)
+      (clear (s .«nms_radius») (omega arith) p c) (clear (rayOf (s .«ray_radius»)) (omega arith) p c)))
       (candidates w h (borderOf s))
       (all-rect (borderOf s) (w - borderOf s) (borderOf s) (h - borderOf s)))
 
@@ -116,7 +100,13 @@ module _ (s : RadonDetectorParams) (w h : ℕ) (f g : ℕ → ℕ → Float) (a 
   unfolding numbers
   numbers-at p c =
       let u : (x y : ℕ) → x < w → y < h → f x y ≡ g x y = e in
-      rw (u (p .x) (p .y) (omega arith) (omega arith), u (p .x - 1) (p .y) (omega arith) (omega arith), u (p .x + 1) (p .y) (omega arith) (omega arith), u (p .x) (p .y - 1) (omega arith) (omega arith), u (p .x) (p .y + 1) (omega arith) (omega arith))
+      rw (
+        u (p .x) (p .y) (omega arith) (omega arith),
+        u (p .x - 1) (p .y) (omega arith) (omega arith),
+        u (p .x + 1) (p .y) (omega arith) (omega arith),
+        u (p .x) (p .y - 1) (omega arith) (omega arith),
+        u (p .x) (p .y + 1) (omega arith) (omega arith),
+      )
 
   all-candidates : all Candidate (corners s w h g b)
   unfolding corners
@@ -129,4 +119,5 @@ module _ (s : RadonDetectorParams) (w h : ℕ) (f g : ℕ → ℕ → Float) (a 
       let n = length old / stride in
       let l = corners s w h g b in
       ap (λ l. over (each (numbers s f) (take n l)) old) corners-same
-      ∙ ap (λ v. over v old) (each-same (numbers s f) (numbers s g) (take n l) (all-map Candidate (λ p. numbers s f p ≡ numbers s g p) numbers-at (take n l) (all-take Candidate n l all-candidates)))
+      ∙ ap (λ v. over v old) (each-same (numbers s f) (numbers s g) (take n l)
+      (all-map Candidate (λ p. numbers s f p ≡ numbers s g p) numbers-at (take n l) (all-take Candidate n l all-candidates)))

@@ -1,11 +1,4 @@
 -- The facts that the proofs of the functions lean on, and those that are proved of the definitions alone.
-pub mod Exact
-pub mod Walk
-pub mod Sign
-pub mod Reach
-pub mod Rooted
-pub mod Offsets
-pub mod AsRust
 pub mod Passing
 pub mod Greatest
 pub mod Windows

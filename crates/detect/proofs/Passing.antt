@@ -1,4 +1,5 @@
--- How values at or under a floor are passed over: the steps behind `next_above` and `next_crest`. Assumes nothing.
+-- How values at or under a floor are passed over: the steps behind the searches of `crests`, said once over what is searched for.
+-- Assumes nothing.
 use mathlib.Core.Path.{_≡_, refl, sym, ap, _∙_}
 use mathlib.Core.Logic.{inl, inr}
 use mathlib.Core.Bool.{Bool, true, false, _||_, true≢false}
@@ -11,13 +12,7 @@ use lib.ListN.{length, take}
 use lib.Seq.{length-take-le, getD-take}
 use lib.Dec.{lit<}
 use lib.Ieee.{Float, nan, lt}
-use Rattle.detect.specs.Above.{over, crest, Reached, eight, None, Next}
-
--- the search has passed i
-pub record Passed (p : ℕ → Bool) (a e i : ℕ) : Type 0 where
-  pub least : a ≤ i
-  pub most : i ≤ e
-  pub none : None p a i
+use Rattle.detect.specs.Crests.{over, crest, eight, None, Passed, Next, Reached}
 
 nor : (a b : Bool) → (a || b) ≡ false → (a ≡ false) × (b ≡ false)
 nor true b h = absurd (true≢false h)
@@ -57,39 +52,50 @@ module _ (p : ℕ → Bool) where
       (none-on (i + 6) (i + 7) (i + 8) (none-one (i + 6) _ (omega arith) (f .1))
       (none-one (i + 7) _ (omega arith) (e .1))))))))
 
+-- ---- a search for p from a to below e: the answers r and t are those of the code's tests, as they come
+
 module _ (p : ℕ → Bool) (a e : ℕ) where
   pub passed-none : a ≤ e → Passed p a e a
   passed-none h = record { least = omega arith; most = h; none = none-here p a }
 
-  pub passed-one : {i : ℕ} → Passed p a e i → i < e → p i ≡ false → Passed p a e (i + 1)
-  passed-one {i} r b t = record { least = omega arith; most = omega arith; none = none-on p a i (i + 1) (r .none) (none-one p i (i + 1) refl t) }
+  module _ {i : ℕ} (s : Passed p a e i) where
+    pub passed-eight : {r : Bool} → i + 8 ≤ e → r ≡ eight p i → r ≡ false → Passed p a e (i + 8)
+    passed-eight b h t =
+        record { least = omega arith; most = b; none = none-on p a i (i + 8) (s .none) (none-eight p i (sym h ∙ t)) }
 
-  pub passed-eight : {i : ℕ} → Passed p a e i → i + 8 ≤ e → eight p i ≡ false → Passed p a e (i + 8)
-  passed-eight {i} r b t = record { least = omega arith; most = b; none = none-on p a i (i + 8) (r .none) (none-eight p i t) }
+    pub passed-one : {r : Bool} → i < e → r ≡ p i → r ≡ false → Passed p a e (i + 1)
+    passed-one b h t =
+        record { least = omega arith; most = omega arith; none = none-on p a i (i + 1) (s .none) (none-one p i (i + 1) refl (sym h ∙ t)) }
 
-  pub next-found : {i : ℕ} → Passed p a e i → i < e → p i ≡ true → Next p a e i
-  next-found r b t = record { least = r .least; most = r .most; none = r .none; found = λ _. t }
+    pub next-found : {r : Bool} → r ≡ p i → r ≡ true → Next p a e i
+    next-found h t = record { least = s .least; most = s .most; none = s .none; found = λ _. sym h ∙ t }
 
-  pub next-none : {i : ℕ} → Passed p a e i → e ≤ i → Next p a e e
-  next-none {i} r b = record { least = omega arith; most = omega arith; none = λ k u v. r .none k u (omega arith); found = λ q. absurd (omega arith) }
+    pub next-none : e ≤ i → Next p a e e
+    next-none b = record { least = omega arith; most = omega arith; none = λ k u v. s .none k u (omega arith); found = λ q. absurd (omega arith) }
+
+-- ---- crests
 
 -- eight answers are the eight
-pub eight-is : (p : ℕ → Bool) (i : ℕ) {a b c d e f g h : Bool} → a ≡ p i → b ≡ p (i + 1) → c ≡ p (i + 2) → d ≡ p (i + 3) → e ≡ p (i + 4) → f ≡ p (i + 5) → g ≡ p (i + 6) → h ≡ p (i + 7)
+pub eight-is : (p : ℕ → Bool) (i : ℕ) {a b c d e f g h : Bool} → a ≡ p i → b ≡ p (i + 1) → c ≡ p (i + 2) → d ≡ p (i + 3)
+    → e ≡ p (i + 4) → f ≡ p (i + 5) → g ≡ p (i + 6) → h ≡ p (i + 7)
     → (((a || b) || c) || d) || (((e || f) || g) || h) ≡ eight p i
 eight-is p i a b c d e f g h = rw (a, b, c, d, e, f, g, h)
 
 -- none of the eight is a crest where none is above the floor
-pub no-crests : (floor : Float) (s : List Float) (i : ℕ) → eight (over floor s) i ≡ false → false ≡ eight (crest floor s) i
-no-crests floor s i h =
-    let n : (k : ℕ) → k < 8 → false ≡ crest floor s (i + k) = λ k b. sym (rw (none-eight (over floor s) i h (i + k) (omega arith) (omega arith))) in
-    eight-is (crest floor s) i (rw add-zero at (n 0 (lit< tt))) (n 1 (lit< tt)) (n 2 (lit< tt)) (n 3 (lit< tt)) (n 4 (lit< tt)) (n 5 (lit< tt)) (n 6 (lit< tt)) (n 7 (lit< tt))
+pub no-crests : (floor : Float) (s : List Float) (i : ℕ) {r : Bool} → r ≡ eight (over floor s) i → r ≡ false → false ≡ eight (crest floor s) i
+no-crests floor s i h t =
+    let low = none-eight (over floor s) i (sym h ∙ t) in
+    let n : (k : ℕ) → k < 8 → false ≡ crest floor s (i + k) = λ k b. sym (rw (low (i + k) (omega arith) (omega arith))) in
+    eight-is (crest floor s) i (rw add-zero at (n 0 (lit< tt)))
+    (n 1 (lit< tt)) (n 2 (lit< tt)) (n 3 (lit< tt)) (n 4 (lit< tt)) (n 5 (lit< tt)) (n 6 (lit< tt)) (n 7 (lit< tt))
 
 -- ---- the next place that is worth a verdict
 
 pub reached-crest : (r : ℕ) (floor : Float) (s : List Float) {a e i : ℕ} → 0 < r → Next (crest floor s) a e i → Reached r floor s a e i
 reached-crest r floor s b t = record { least = t .least; most = t .most; none = λ k h l. inr (b, t .none k h l) }
 
-pub reached-above : (r : ℕ) (floor : Float) (s : List Float) {a e i : ℕ} → e ≤ length s → Next (over floor (take e s)) a (length (take e s)) i → Reached r floor s a e i
+pub reached-above : (r : ℕ) (floor : Float) (s : List Float) {a e i : ℕ} → e ≤ length s
+    → Next (over floor (take e s)) a (length (take e s)) i → Reached r floor s a e i
 reached-above r floor s {e = e} l t = record {
   least = t .least;
   most = omega (arith, length-take-le e s l);

@@ -14,14 +14,14 @@ use Rattle.float.proofs.Ranged.{Ranged, exact, ranged-whole, ranged-wider, rang
 use Rattle.float.proofs.Shifted.{Within, within-of-le, add-within, held-whole}
 use Rattle.grid.specs.Rect.{Place}
 use Rattle.grid.proofs.All.{all, all-keep, all-rect, InRect}
-use Rattle.params.specs.declared.RadonDetectorParams.{RadonDetectorParams}
+use Rattle.params.specs.declared.settings.RadonDetectorParams.{RadonDetectorParams}
 use Rattle.params.specs.Settings.{factorOf}
 use Rattle.params.specs.Coordinates.{toInput}
 use Rattle.detect.specs.Window.{at}
-use Rattle.detect.specs.Above.{entry}
+use Rattle.detect.specs.Maximum.{entry}
 use Rattle.detect.specs.PeakFit.{half, minusHalf}
 use Rattle.detect.specs.Corners.{borderOf, corners, offsetX, offsetY, inputAt, numbers}
-use Rattle.detect.proofs.Offsets.{Central, fit-central}
+use Rattle.peak_fit.proofs.Offsets.{Central, fit-central}
 
 -- ---- one coordinate
 

@@ -1,9 +1,10 @@
 -- A candidate's verdict, a turn of the scan, a row and all rows: the steps behind `verdict` and `peaks`. Assumes nothing.
 use mathlib.Core.Path.{_≡_, refl, sym, ap, _∙_}
 use mathlib.Core.Logic.{_⊎_, inl, inr}
-use mathlib.Core.Bool.{Bool, true, false, not, _&&_, true≢false}
+use mathlib.Core.Bool.{Bool, true, false, not, _&&_, cond, true≢false}
 use Prim.Native.Nat.{ℕ, _+_, _-_, _*_, _/_, _≤_, _<_, _^_}
 use native.Mathlib.Omega.{arith}
+use borrow.Author.Tests.{le-leb, lt-leb}
 use mathlib.Core.List.{List, [], _∷_}
 use native.Mathlib.Nat.{zero-mul, mul-zero, div-add-mod'}
 use lib.ListN.{length, getD, take, drop, length-take, length-drop}
@@ -20,87 +21,144 @@ use Rattle.grid.specs.Rect.{Place, place, rect}
 use Rattle.grid.proofs.Rect.{any-in, Across, across-none, across-more, across-skip, down-more, Down, down-none, down-all, length-rect}
 use Rattle.grid.specs.Over.{written, Listed, Onward}
 use Rattle.grid.proofs.Over.{listed-none, onward-none, onward-no, onward-full, onward-put}
-use Rattle.params.specs.declared.RadonDetectorParams.{RadonDetectorParams}
+use Rattle.params.specs.declared.settings.RadonDetectorParams.{RadonDetectorParams}
 use Rattle.params.specs.Settings.{rayOf}
-use Rattle.detect.specs.declared.saddle.SaddleTest.{SaddleTest}
-use Rattle.detect.specs.declared.saddle.Saddle.{Saddle}
+use Rattle.saddle.specs.declared.SaddleTest.{SaddleTest}
+use Rattle.saddle.specs.declared.Saddle.{Saddle}
+use Rattle.saddle.specs.declared.Saddle.the-variants.{Flat}
 use Rattle.detect.specs.declared.verdict.Verdict.{Verdict}
+use Rattle.detect.specs.declared.verdict.Verdict.the-variants.{NotAbove, Beaten, TooFew}
+use Rattle.detect.specs.declared.verdict.Scan.{Scan}
 use Rattle.detect.specs.Saddle.{saddleOf, saddleAt}
-use Rattle.detect.specs.Around.{Around}
-use Rattle.detect.specs.Window.{value, at, beaten, positives}
-use Rattle.detect.specs.PeakFit.{fitOf}
-use Rattle.detect.specs.Above.{entry, over, crest, Reached}
-use Rattle.detect.specs.Corners.{borderOf, candidates, greater, peak, floorOf, corners, firstFailing, isSaddle, isKept, verdict, stride, inputAt, numbers}
-use Rattle.detect.specs.Room.{Room}
+use Rattle.detect.specs.Maximum.{entry, greater, greatestOf, maximum}
+use Rattle.detect.specs.Window.{at, beaten, positives}
+use Rattle.detect.specs.Crests.{over, crest, Reached}
+use Rattle.detect.specs.Corners.{candidates, floorOf, corners, firstFailing, bySaddle, isSaddle, isKept, verdict, stride, inputAt, numbers}
+use Rattle.detect.specs.Room.{Room, Cross}
+use Rattle.detect.specs.Scan.{scanOf, floorIn, verdictIn, keptIn, numbersIn, fitAround, borderIn, rowsAbove}
+use Rattle.detect.specs.Scan.{Asked, Judging, Candidate, Finding, NextInRow, Entered, RowFound, Found}
 use Rattle.detect.proofs.Windows.{cross}
-use Rattle.detect.specs.Scan.{passes, RowFound, Candidate}
 
-module _ {s : RadonDetectorParams} {t : SaddleTest} {w h x y resp image : ℕ} (c : Candidate s t w h x y resp image) where
-  -- its suppression window lies inside, and so do its nearest
-  pub window-room : Room w h (s .«nms_radius») x y resp
-  window-room = record { wide = c .judging .wide; high = c .judging .high; left = omega arith; right = omega arith; above = omega arith; below = omega arith; holds = c .judging .response }
+-- ---- a candidate lies far enough inside
 
-  pub near-room : Room w h 1 x y resp
-  near-room = record { wide = c .judging .wide; high = c .judging .high; left = omega arith; right = omega arith; above = omega arith; below = omega arith; holds = c .judging .response }
+module _ {s : Scan} {x y resp image : ℕ} (c : Candidate s x y resp image) where
+  -- for all windows up to radius r
+  inner-room : (r : ℕ) → r ≤ borderIn s → Room (s .w) (s .h) r x y resp
+  inner-room r b =
+      let a = c .judging .asked in
+      record {
+        wide = a .wide;
+        high = a .high;
+        left = omega arith;
+        right = omega arith;
+        above = omega arith;
+        below = omega arith;
+        holds = a .response;
+        row = c .row;
+      }
 
-  -- and the disk of the saddle test
-  pub disk-room : Around (rayOf (s .«ray_radius»)) image w h x y
-  disk-room = record {
-    small = omega arith;
-    inside = record { left = omega arith; right = omega arith; above = omega arith; below = omega arith };
-    room = c .judging .working;
-  }
+  -- its suppression window
+  pub window-room : Room (s .w) (s .h) (s .params .«nms_radius») x y resp
+  window-room = inner-room (s .params .«nms_radius») (omega arith)
 
--- the verdict, from what each callee ensures and what the test of it said: at a rule that is not reached, say `refl` twice
-module _ (s : RadonDetectorParams) (floor : Float) (f : ℕ → ℕ → Float) (g : ℕ → ℕ → ℕ) (p : Place) where
-  pub judged : {v : Float} {a m m′ e : Bool} {n : ℕ} {d : Saddle} {r : Verdict} → v ≡ at f p → lt floor v ≡ a → m ≡ not (beaten f (s .«nms_radius») p) → m ≡ m′
-      → n ≡ positives f (s .«nms_radius») p → leb (s .«min_cluster_size») n ≡ e → d ≡ isSaddle s g p → r ≡ firstFailing a m′ e d → r ≡ verdict s floor f g p
+  -- its nearest
+  pub near : Cross (s .w) x y resp
+  near = cross (inner-room 1 (omega arith)) (omega arith)
+
+-- ---- the verdict, from what each callee ensures and what the test of it said
+
+module _ (s : Scan) (resp : List Float) (image : List ℕ) (x y : ℕ) where
+  abbrev here : Place
+  here = place x y
+
+  abbrev map : ℕ → ℕ → Float
+  map = value resp (s .w)
+
+  -- the four rules' answers a, m, e and d, of which those that are not reached may be any
+  rules : {a m e : Bool} {d : Saddle} {r : Verdict} → lt (s .floor) (map x y) ≡ a → not (beaten map (s .params .«nms_radius») here) ≡ m
+      → leb (s .params .«min_cluster_size») (positives map (s .params .«nms_radius») here) ≡ e
+      → isSaddle (s .params) (pixel image (s .w)) here ≡ d → r ≡ firstFailing a m e d → r ≡ verdictIn s resp image here
   unfolding verdict
-  judged v a m b n c d r = rw (← v, ← m, ← n, ← d, a, b, c) r
+  rules a m e d r = rw (a, m, e, d) r
 
-  pub saddle-is : {t : SaddleTest} {k : ℕ} {d : Saddle} → t ≡ saddleOf (rayOf (s .«ray_radius»)) → k ≡ rayOf (s .«ray_radius») → d ≡ saddleAt t k g (p .x) (p .y) → d ≡ isSaddle s g p
-  saddle-is a b e = rw (← a, ← b) e
+  pub not-above : lt (s .floor) (map x y) ≡ false → NotAbove ≡ verdictIn s resp image here
+  not-above a = rules a refl refl refl refl
+
+  module _ (a : lt (s .floor) (map x y) ≡ true) {m : Bool} (b : m ≡ not (beaten map (s .params .«nms_radius») here)) where
+    pub is-beaten : m ≡ false → Beaten ≡ verdictIn s resp image here
+    is-beaten t = rules a (sym b ∙ t) refl refl refl
+
+    module _ (t : m ≡ true) {n : ℕ} (c : n ≡ positives map (s .params .«nms_radius») here) where
+      enough : {e : Bool} → leb (s .params .«min_cluster_size») n ≡ e
+          → leb (s .params .«min_cluster_size») (positives map (s .params .«nms_radius») here) ≡ e
+      enough u = rw (← c) u
+
+      pub too-few : n < s .params .«min_cluster_size» → TooFew ≡ verdictIn s resp image here
+      too-few u = rules a (sym b ∙ t) (enough (lt-leb _ _ u)) refl refl
+
+      pub as-saddle : {k : ℕ} {d : Saddle} {r : Verdict} → s .params .«min_cluster_size» ≤ n
+          → s .test ≡ saddleOf (rayOf (s .params .«ray_radius»)) → k ≡ rayOf (s .params .«ray_radius»)
+          → d ≡ saddleAt (s .test) k (pixel image (s .w)) x y → r ≡ bySaddle d → r ≡ verdictIn s resp image here
+      as-saddle {d = q} u f g d r = rules {d = q} a (sym b ∙ t) (enough (le-leb _ _ u)) (rw (← f, ← g) (sym d)) r
+
+-- ---- a corner's numbers, stored
 
 -- a coordinate is a float as it is
 pub coordinate : (n : ℕ) → n ≤ 8192 → T (inFloat binary32 (pos n))
 unfolding inFloat
 coordinate n h = le→leb n (2 ^ 24) (omega arith)
 
--- ---- the scan at x of row y: `mid` and m are the list and the count with which the row began
-
-pub record Scanned (s : RadonDetectorParams) (floor : Float) (w h : ℕ) (f : ℕ → ℕ → Float) (g : ℕ → ℕ → ℕ) (y : ℕ) (mid : List Float) (m : ℕ) (out : List Float) (n x : ℕ) : Type 0 where
-  pub across : Across (Onward stride (numbers s f) (passes s floor f g) mid m (rect (borderOf s) (w - borderOf s) (borderOf s) y) out n) (borderOf s) (w - borderOf s) (borderOf s) (h - borderOf s) y x
-  pub few : n ≤ m + x
-
--- ---- a corner's numbers, stored
-
 pub numbers-long : (s : RadonDetectorParams) (f : ℕ → ℕ → Float) (p : Place) → length (numbers s f p) ≡ stride
 unfolding numbers
 numbers-long s f p = refl
 
-module _ (s : RadonDetectorParams) (l r : List Float) (n w : ℕ) {h x y : ℕ} (m : Room w h 1 x y (length r)) where
+module _ (s : Scan) (l r : List Float) (n x y : ℕ) (k : Cross (s .w) x y (length r)) where
+  -- the entry of (x, y)
+  abbrev centre : ℕ
+  centre = y * s .w + x
+
   pub stored : {fx fy a b : Float} {new : List Float}
-      → fx ≡ fitOf (s .«peak_fit») (entry r (y * w + x - 1)) (entry r (y * w + x)) (entry r (y * w + x + 1))
-      → fy ≡ fitOf (s .«peak_fit») (entry r (y * w + x - w)) (entry r (y * w + x)) (entry r (y * w + x + w))
-      → a ≡ inputAt (s .«image_upsample») x fx → b ≡ inputAt (s .«image_upsample») y fy
-      → new ≡ sets l (stride * n) (a ∷ b ∷ entry r (y * w + x) ∷ []) → new ≡ sets l (stride * n) (numbers s (value r w) (place x y))
+      → fx ≡ fitAround (s .params .«peak_fit») r centre 1 → fy ≡ fitAround (s .params .«peak_fit») r centre (s .w)
+      → a ≡ inputAt (s .params .«image_upsample») x fx → b ≡ inputAt (s .params .«image_upsample») y fy
+      → new ≡ sets l (stride * n) (a ∷ b ∷ entry r centre ∷ []) → new ≡ sets l (stride * n) (numbersIn s r (place x y))
   unfolding numbers
   stored e1 e2 e3 e4 all =
-      let k = cross m in
-      let i : y * w + x - 1 ≡ y * w + (x - 1) = omega arith in
-      let j : y * w + x + 1 ≡ y * w + (x + 1) = omega arith in
-      let u : y * w + x - w ≡ (y - 1) * w + x = omega arith in
-      let d : y * w + x + w ≡ (y + 1) * w + x = omega arith in
+      let i : centre - 1 ≡ y * s .w + (x - 1) = omega arith in
+      let j : centre + 1 ≡ y * s .w + (x + 1) = omega arith in
+      let u : centre - s .w ≡ (y - 1) * s .w + x = omega arith in
+      let d : centre + s .w ≡ (y + 1) * s .w + x = omega arith in
       rw (e3, e4, e1, e2, i, j, u, d) at all
+
+-- ---- a candidate that is judged, by what was said of it
+
+said : {a v : Verdict} {r b : Bool} → v ≡ a → r ≡ isKept v → r ≡ b → isKept a ≡ b
+said is kept t = ap isKept (sym is) ∙ sym kept ∙ t
+
+module _ {s : Scan} {resp : List Float} {image : List ℕ} {x y : ℕ} {mid : List Float} {n : ℕ} {v : Verdict} {r : Bool}
+    (is : v ≡ verdictIn s resp image (place x y)) (kept : r ≡ isKept v) where
+  pub entered-no : r ≡ false → Entered s resp image x y mid n mid n
+  entered-no t = record { onward = λ l. onward-no _ _ _ _ _ _ _ _ (onward-none _ _ _ _ _ _) (said is kept t); few = omega arith }
+
+  pub entered-full : {new : List Float} → r ≡ true → length mid / stride ≤ n → new ≡ mid → Entered s resp image x y mid n new (n + 1)
+  entered-full t l e =
+      rw e (record { onward = λ p. onward-full _ _ _ _ _ _ _ _ (onward-none _ _ _ _ _ _) (said is kept t) l; few = omega arith })
+
+  pub entered-put : {new : List Float} → r ≡ true → n < length mid / stride → new ≡ sets mid (stride * n) (numbersIn s resp (place x y))
+      → Entered s resp image x y mid n new (n + 1)
+  entered-put t l e = record {
+    onward = λ p. onward-put _ _ _ _ _ _ _ _ (numbers-long (s .params) (value resp (s .w))) (onward-none _ _ _ _ _ _) (said is kept t) l e;
+    few = omega arith;
+  }
 
 -- ---- a run of places that cannot be kept
 
-pub not-above : (s : RadonDetectorParams) (floor : Float) (f : ℕ → ℕ → Float) (g : ℕ → ℕ → ℕ) (p : Place) → lt floor (at f p) ≡ false → passes s floor f g p ≡ false
+pub low-out : (s : RadonDetectorParams) (floor : Float) (f : ℕ → ℕ → Float) (g : ℕ → ℕ → ℕ) (p : Place) → lt floor (at f p) ≡ false
+    → isKept (verdict s floor f g p) ≡ false
 unfolding verdict
-not-above s floor f g p e = rw e
+low-out s floor f g p e = rw e
 
--- what is beaten is not kept
-beaten-out : (s : RadonDetectorParams) (floor : Float) (f : ℕ → ℕ → Float) (g : ℕ → ℕ → ℕ) (p : Place) → beaten f (s .«nms_radius») p ≡ true → passes s floor f g p ≡ false
+beaten-out : (s : RadonDetectorParams) (floor : Float) (f : ℕ → ℕ → Float) (g : ℕ → ℕ → ℕ) (p : Place) → beaten f (s .«nms_radius») p ≡ true
+    → isKept (verdict s floor f g p) ≡ false
 unfolding verdict
 beaten-out s floor f g p e = rw e (go (lt floor (at f p)))
   where
@@ -116,119 +174,181 @@ fails true false true h = inr (inr refl)
 fails true false false h = absurd (true≢false h)
 
 -- row y, as a part of the map
-abbrev pub rowPart : List Float → ℕ → ℕ → List Float
-rowPart r w y = take (y * w + w - y * w) (drop (y * w) r)
+abbrev rowOf : List Float → ℕ → ℕ → List Float
+rowOf r w y = take (y * w + w - y * w) (drop (y * w) r)
 
 module _ (r : List Float) (w y : ℕ) (fits : y * w + w ≤ length r) where
-  pub row-length : length (rowPart r w y) ≡ w
+  pub row-length : length (rowOf r w y) ≡ w
   row-length = simp (length-take, length-drop) (omega arith)
 
-  row-value : (k : ℕ) → k < w → entry (rowPart r w y) k ≡ value r w k y
+  row-value : (k : ℕ) → k < w → entry (rowOf r w y) k ≡ value r w k y
   row-value k l = getD-take (y * w + w - y * w) (drop (y * w) r) k nan (omega arith) ∙ getD-drop (y * w) r k nan
 
-  module _ (s : RadonDetectorParams) (floor : Float) (g : ℕ → ℕ → ℕ) where
-    -- less than a neighbour that the window has
-    beside : (k : ℕ) → 0 < s .«nms_radius» → 0 < k → k + 1 < w → crest floor (rowPart r w y) k ≡ false → passes s floor (value r w) g (place k y) ≡ false
-    unfolding beaten
-    beside k b h l e = elim (fails (over floor (rowPart r w y) k) (lt (entry (rowPart r w y) k) (entry (rowPart r w y) (k - 1))) (lt (entry (rowPart r w y) k) (entry (rowPart r w y) (k + 1))) e) [
-      | inl t ↦ not-above s floor (value r w) g (place k y) (rw (row-value k (omega arith)) at t)
-      | inr t ↦ beaten-out s floor (value r w) g (place k y) (elim t [
-        | inl u ↦ any-in _ _ _ _ _ (k - 1) y (omega arith) (omega arith) (omega arith) (omega arith) (rw (row-value k (omega arith), row-value (k - 1) (omega arith)) at u)
-        | inr u ↦ any-in _ _ _ _ _ (k + 1) y (omega arith) (omega arith) (omega arith) (omega arith) (rw (row-value k (omega arith), row-value (k + 1) l) at u)
+module _ (s : Scan) (resp : List Float) (y : ℕ) (fits : y * s .w + s .w ≤ length resp) where
+  abbrev row : List Float
+  row = rowOf resp (s .w) y
+
+  -- the window of radius r has it
+  beats : (r k i : ℕ) → k - r ≤ i → i < k + r + 1 → k < s .w → i < s .w → lt (entry row k) (entry row i) ≡ true
+      → beaten (value resp (s .w)) r (place k y) ≡ true
+  unfolding beaten
+  beats r k i a b u v e =
+      any-in _ _ _ _ _ i y a b (omega arith) (omega arith) (rw (row-value resp (s .w) y fits k u, row-value resp (s .w) y fits i v) at e)
+
+  -- not above the floor, or less than a neighbour that the window has
+  passed-out : (image : List ℕ) (k : ℕ) → 0 < k → k + 1 < s .w
+      → (over (s .floor) row k ≡ false) ⊎ ((0 < s .params .«nms_radius») × (crest (s .floor) row k ≡ false)) → keptIn s resp image (place k y) ≡ false
+  passed-out image k h l c = elim c [
+    | inl z ↦ low z
+    | inr z ↦ elim (fails (over (s .floor) row k) (lt (entry row k) (entry row (k - 1))) (lt (entry row k) (entry row (k + 1))) (z .1)) [
+      | inl t ↦ low t
+      | inr t ↦ beaten-out (s .params) (s .floor) (value resp (s .w)) (pixel image (s .w)) (place k y) (elim t [
+        | inl u ↦ beats (s .params .«nms_radius») k (k - 1) (omega (arith, z .0)) (omega arith) (omega arith) (omega arith) u
+        | inr u ↦ beats (s .params .«nms_radius») k (k + 1) (omega arith) (omega (arith, z .0)) (omega arith) l u
       ])
     ]
+  ]
+    where
+      low : over (s .floor) row k ≡ false → keptIn s resp image (place k y) ≡ false
+      low t =
+          low-out (s .params) (s .floor) (value resp (s .w)) (pixel image (s .w)) (place k y)
+          (rw (row-value resp (s .w) y fits k (omega arith)) at t)
 
-  module _ {s : RadonDetectorParams} {floor : Float} {h : ℕ} {g : ℕ → ℕ → ℕ} {mid : List Float} {m : ℕ} {out : List Float} {n x a e i : ℕ}
-      (c : Scanned s floor w h (value r w) g y mid m out n x) (j : a ≡ x) (q : e ≡ w - borderOf s) (t : Reached (s .«nms_radius») floor (rowPart r w y) a e i) where
-    -- a run of places that cannot be kept
-    pub run-over : Scanned s floor w h (value r w) g y mid m out n i
-    run-over =
-        let o : x + (i - x) ≡ i = omega arith in
-        record {
-          across = rw o at (across-skip _ _ _ _ _ (i - x) (c .across) (omega arith) (λ k u v p. onward-no _ _ _ _ _ _ _ _ p (elim (t .none k (omega arith) (omega arith)) [
-            | inl z ↦ not-above s floor (value r w) g (place k y) (rw (row-value k (omega arith)) at z)
-            | inr z ↦ beside s floor g k (z .0) (omega arith) (omega arith) (z .1)
-          ])));
-          few = omega arith;
-        }
+  pub next-is : {a e i r : ℕ} → 1 ≤ a → e < s .w → r ≡ s .params .«nms_radius» → Reached r (s .floor) row a e i → NextInRow s resp y a e i
+  next-is b l q t = record {
+    least = t .least;
+    most = t .most;
+    none = λ image k u v. passed-out image k (omega arith) (omega arith) (rw q at (t .none k u v));
+  }
 
--- ---- a turn of the scan, from the equations that the code's branches hand over
+-- two stretches, one after the other
+onward-on : {A B : Type 0} {k : ℕ} {f : A → List B} {p : A → Bool} {mid out new : List B} {m n r : ℕ} {l₀ l l′ : List A}
+    → Onward k f p mid m l₀ out n l → Onward k f p out n l new r l′ → Onward k f p mid m l₀ new r l′
+onward-on a b = record { on = λ old h. b .on old (a .on old h); same = b .same ∙ a .same }
 
-module _ {s : RadonDetectorParams} {floor : Float} {w h : ℕ} {f : ℕ → ℕ → Float} {g : ℕ → ℕ → ℕ} {y : ℕ} {mid : List Float} {m : ℕ} {out new : List Float} {n k x : ℕ}
-    (c : Scanned s floor w h f g y mid m out n x) (b : x < w - borderOf s) where
-  pub turn-no : passes s floor f g (place x y) ≡ false → new ≡ out → k ≡ n → Scanned s floor w h f g y mid m new k (x + 1)
-  turn-no e p q = record { across = across-more _ _ _ _ _ _ (c .across) b (λ o. rw (p, q) (onward-no _ _ _ _ _ _ _ _ o e)); few = omega arith }
+-- ---- the scan at x of row y: `mid` and m are the list and the count with which the row began
 
-  pub turn-full : passes s floor f g (place x y) ≡ true → length mid / stride ≤ n → new ≡ out → k ≡ n + 1 → Scanned s floor w h f g y mid m new k (x + 1)
-  turn-full e l p q = record { across = across-more _ _ _ _ _ _ (c .across) b (λ o. rw (p, q) (onward-full _ _ _ _ _ _ _ _ o e l)); few = omega arith }
-
-  pub turn-put : passes s floor f g (place x y) ≡ true → n < length mid / stride → new ≡ sets out (stride * n) (numbers s f (place x y)) → k ≡ n + 1
-      → Scanned s floor w h f g y mid m new k (x + 1)
-  turn-put e l p q = record { across = across-more _ _ _ _ _ _ (c .across) b (λ o. rw q (onward-put _ _ _ _ _ _ _ _ (numbers-long s f) o e l p)); few = omega arith }
-
-pub scan-none : (s : RadonDetectorParams) (floor : Float) (w h : ℕ) (f : ℕ → ℕ → Float) (g : ℕ → ℕ → ℕ) (y : ℕ) (mid : List Float) (m : ℕ)
-    → borderOf s + borderOf s < w → borderOf s ≤ y → y + borderOf s < h → Scanned s floor w h f g y mid m mid m (borderOf s)
-scan-none s floor w h f g y mid m a b c = record { across = across-none _ _ _ _ _ y (omega arith) b (omega arith) (onward-none _ _ _ _ _ _); few = omega arith }
-
-pub scan-all : {s : RadonDetectorParams} {floor : Float} {w h : ℕ} {f : ℕ → ℕ → Float} {g : ℕ → ℕ → ℕ} {y : ℕ} {mid : List Float} {m : ℕ} {out : List Float} {n x : ℕ}
-    → Scanned s floor w h f g y mid m out n x → w - borderOf s ≤ x → RowFound s floor w h f g y mid m out n
-scan-all c b = record { onward = down-more _ _ _ _ _ (c .across) b .holds; few = omega arith }
+pub record Scanned (s : Scan) (resp : List Float) (image : List ℕ) (y : ℕ) (mid : List Float) (m : ℕ) (out : List Float) (n x : ℕ) : Type 0 where
+  pub across : Across (Onward stride (numbersIn s resp) (keptIn s resp image) mid m (rowsAbove s y) out n)
+      (borderIn s) (s .w - borderIn s) (borderIn s) (s .h - borderIn s) y x
+  pub few : n ≤ m + x
 
 -- a search that goes on past x comes nearer the end
 pub nearer : (e x i : ℕ) → x < e → x + 1 ≤ i → e - i < e - x
 nearer e x i a b = omega arith
 
+module _ {s : Scan} {resp : List Float} {image : List ℕ} {y : ℕ} {mid : List Float} {m : ℕ} (f : Finding s y m (length resp) (length image))
+    {b : ℕ} (border : b ≡ borderIn s) where
+  pub scan-none : Scanned s resp image y mid m mid m b
+  scan-none =
+      rw border (record { across = across-none _ _ _ _ _ y (omega arith) (f .above) (omega arith) (onward-none _ _ _ _ _ _); few = omega arith })
+
+  module _ {out : List Float} {n x : ℕ} (c : Scanned s resp image y mid m out n x) where
+    -- the search goes on to i
+    pub scan-on : {i : ℕ} → NextInRow s resp y x (s .w - b) i → Scanned s resp image y mid m out n i
+    scan-on {i} t =
+        let o : x + (i - x) ≡ i = omega arith in
+        record {
+          across = rw o at (across-skip _ _ _ _ _ (i - x) (c .across) (omega arith)
+              (λ k u v p. onward-no _ _ _ _ _ _ _ _ p (t .none image k u (omega arith))));
+          few = omega arith;
+        }
+
+    pub candidate : x < s .w - b → Candidate s x y (length resp) (length image) × (n ≤ 8192 * 8192)
+    candidate l = (
+      record { judging = f .judging; left = c .across .least; right = omega arith; above = f .above; below = f .below; row = f .row },
+      omega (arith, f .few, f .judging .asked),
+    )
+
+    -- it is judged
+    pub scan-turn : {new : List Float} {k : ℕ} → x < s .w - b → Entered s resp image x y out n new k → Scanned s resp image y mid m new k (x + 1)
+    scan-turn l t = record {
+      across = across-more _ _ _ _ _ _ (c .across) (omega arith) (λ o. onward-on o (t .onward _));
+      few = omega (arith, t .few);
+    }
+
+    pub scan-all : s .w - b ≤ x → RowFound s resp image y mid m out n
+    scan-all l = record { onward = down-more _ _ _ _ _ (c .across) (omega arith) .holds; few = omega arith }
+
 -- ---- the scan over the rows: what is found above row y
 
-pub record FoundTo (s : RadonDetectorParams) (floor : Float) (w h : ℕ) (f : ℕ → ℕ → Float) (g : ℕ → ℕ → ℕ) (old out : List Float) (n y : ℕ) : Type 0 where
-  pub down : Down (Listed stride (numbers s f) (passes s floor f g) old out n) (borderOf s) (w - borderOf s) (borderOf s) (h - borderOf s) y
+pub record FoundTo (s : Scan) (resp : List Float) (image : List ℕ) (old out : List Float) (n y : ℕ) : Type 0 where
+  pub down : Down (Listed stride (numbersIn s resp) (keptIn s resp image) old out n)
+      (borderIn s) (s .w - borderIn s) (borderIn s) (s .h - borderIn s) y
   pub few : n ≤ 8192 * y
 
-pub found-none : (s : RadonDetectorParams) (floor : Float) (w h : ℕ) (f : ℕ → ℕ → Float) (g : ℕ → ℕ → ℕ) (old : List Float) {y : ℕ} → y ≡ borderOf s → borderOf s + borderOf s < h
-    → FoundTo s floor w h f g old old 0 y
-found-none s floor w h f g old e b = rw e (record { down = down-none _ _ _ _ _ (omega arith) (listed-none _ _ _ _); few = omega arith })
+module _ {s : Scan} {resp : List Float} {image : List ℕ} {old : List Float} where
+  pub found-none : {b : ℕ} → b ≡ borderIn s → borderIn s + borderIn s < s .h → FoundTo s resp image old old 0 b
+  found-none e b = rw e (record { down = down-none _ _ _ _ _ (omega arith) (listed-none _ _ _ _); few = omega arith })
 
-module _ {s : RadonDetectorParams} {floor : Float} {w h : ℕ} {f : ℕ → ℕ → Float} {g : ℕ → ℕ → ℕ} {old out : List Float} {n y : ℕ} (c : FoundTo s floor w h f g old out n y) where
-  pub found-more : {new : List Float} {r : ℕ} → y < h - borderOf s → w ≤ 8192 → RowFound s floor w h f g y out n new r → FoundTo s floor w h f g old new r (y + 1)
-  found-more b l q = record { down = record { least = omega arith; most = omega arith; holds = q .onward .on old (c .down .holds) }; few = omega arith }
+  module _ {out : List Float} {n y : ℕ} (c : FoundTo s resp image old out n y) where
+    pub finding : Judging s (length resp) (length image) → borderIn s + borderIn s < s .w → y < s .h - borderIn s
+        → Finding s y n (length resp) (length image)
+    finding j a b =
+        let l : y < s .h = omega arith in
+        record {
+          judging = j;
+          wider = a;
+          above = c .down .least;
+          below = omega arith;
+          row = omega (arith, j .asked .response, row-in (s .w) l);
+          few = c .few;
+        }
 
-  pub found-all : h - borderOf s ≤ y → floor ≡ floorOf s w h f
-      → (n ≡ length (corners s w h f g)) × (out ≡ written stride (numbers s f) (corners s w h f g) old)
-  unfolding corners
-  found-all b e =
-      let l = down-all _ _ _ _ _ (c .down) b in
-      (rw e at (l .count), rw e at (l .fill))
+    pub found-more : {new : List Float} {r : ℕ} → s .w ≤ 8192 → y < s .h - borderIn s → RowFound s resp image y out n new r
+        → FoundTo s resp image old new r (y + 1)
+    found-more l b q = record {
+      down = record { least = omega arith; most = omega arith; holds = q .onward .on old (c .down .holds) };
+      few = omega arith;
+    }
+
+    pub found-all : s .h - borderIn s ≤ y → s .floor ≡ floorIn s resp → Found s resp image old n out
+    unfolding corners
+    found-all b e =
+        let l = down-all _ _ _ _ _ (c .down) b in
+        record { count = rw e at (l .count); list = rw e at (l .fill) }
 
 -- "W or H at most twice the border finds nothing"
 empty : {A : Type 0} (l : List A) → length l ≡ 0 → l ≡ []
 empty [] e = refl
 empty (a ∷ l) e = absurd (omega arith)
 
-pub too-small : (s : RadonDetectorParams) (w h : ℕ) (f : ℕ → ℕ → Float) (g : ℕ → ℕ → ℕ) → (w ≤ 2 * borderOf s) ⊎ (h ≤ 2 * borderOf s) → corners s w h f g ≡ []
-unfolding corners
-too-small s w h f g c =
-    let b = borderOf s in
+too-small : (w h b : ℕ) → (w ≤ 2 * b) ⊎ (h ≤ 2 * b) → candidates w h b ≡ []
+too-small w h b c =
     let z : length (candidates w h b) ≡ 0 = length-rect b (w - b) b (h - b) ∙ elim c [
       | inl k ↦ ap (λ (i : ℕ). i * (h - b - b)) (omega arith) ∙ zero-mul (h - b - b)
       | inr k ↦ ap (λ (i : ℕ). (w - b - b) * i) (omega arith) ∙ mul-zero (w - b - b)
     ] in
-    rw (empty (candidates w h b) z) (keep-none _)
+    empty (candidates w h b) z
 
-pub none-found : (s : RadonDetectorParams) (w h : ℕ) (f : ℕ → ℕ → Float) (g : ℕ → ℕ → ℕ) (old : List Float) → (w ≤ 2 * borderOf s) ⊎ (h ≤ 2 * borderOf s)
-    → (0 ≡ length (corners s w h f g)) × (old ≡ written stride (numbers s f) (corners s w h f g) old)
-none-found s w h f g old c =
-    let l = listed-none stride (numbers s f) (λ p. true) old in
-    rw (too-small s w h f g c) (refl, rw keep-none at (l .fill))
+pub none-found : {s : Scan} {resp : List Float} {image : List ℕ} {old : List Float} {b : ℕ} → b ≡ borderIn s → (s .w ≤ 2 * b) ⊎ (s .h ≤ 2 * b)
+    → Found s resp image old 0 old
+unfolding corners
+none-found {s} {resp} {image} {old} e c =
+    let l = listed-none stride (numbersIn s resp) (λ p. true) old in
+    let z : candidates (s .w) (s .h) (borderIn s) ≡ [] = rw e at (too-small (s .w) (s .h) _ c) in
+    record { count = rw (z, keep-none); list = rw (z, keep-none) (rw keep-none at (l .fill)) }
 
--- ---- the floor
+-- ---- what the scan goes by
 
-pub peak-is : (r : List Float) (w h : ℕ) → w * h ≤ length r → fold greater f0 (entry (take (w * h) r)) (length (take (w * h) r)) ≡ peak w h (value r w)
-unfolding peak plane
-peak-is r w h l =
+maximum-is : (r : List Float) (w h : ℕ) → w * h ≤ length r → greatestOf (take (w * h) r) ≡ maximum w h (value r w)
+unfolding maximum plane
+maximum-is r w h l =
     let n : length (take (w * h) r) ≡ w * h = length-take-le (w * h) r l in
     rw n (fold-ext greater f0 _ _ (w * h) (λ k b. getD-take (w * h) r k nan b ∙ ap (λ (i : ℕ). getD r i nan) (sym (div-add-mod' k w))))
 
-pub floor-is : (s : RadonDetectorParams) (r : List Float) (w h : ℕ) {m : Float} → w * h ≤ length r → m ≡ fold greater f0 (entry (take (w * h) r)) (length (take (w * h) r))
+pub floor-is : (s : RadonDetectorParams) (r : List Float) (w h : ℕ) {m : Float} → w * h ≤ length r → m ≡ greatestOf (take (w * h) r)
     → mul binary32 (s .«threshold_rel») m ≡ floorOf s w h (value r w)
 unfolding floorOf
-floor-is s r w h l e = ap (mul binary32 (s .«threshold_rel»)) (e ∙ peak-is r w h l)
+floor-is s r w h l e = ap (mul binary32 (s .«threshold_rel»)) (e ∙ maximum-is r w h l)
+
+pub scan-is : (s : RadonDetectorParams) (r : List Float) (w h : ℕ) {m : Float} {k : ℕ} {t : SaddleTest}
+    → w * h ≤ length r → m ≡ greatestOf (take (w * h) r)
+    → k ≡ rayOf (s .«ray_radius») → t ≡ saddleOf k
+    → _≡_ {A = Scan} (record { w = w; h = h; params = s; test = t; floor = mul binary32 (s .«threshold_rel») m }) (scanOf s w h r)
+scan-is s r w h l e k t = rw (t, k, floor-is s r w h l e)
+
+pub judging : (s : RadonDetectorParams) (w h : ℕ) (resp : List Float) (image : List ℕ) {c : Scan}
+    → c ≡ scanOf s w h resp → Asked s w h (length resp) (length image)
+    → Judging c (length resp) (length image) × (c .floor ≡ floorIn c resp)
+judging s w h resp image e a = rw e (record { asked = a; test = refl }, refl)

@@ -7,12 +7,12 @@ use lib.ListN.{length, take, drop}
 use lib.Dec.{eqb, lit<}
 use lib.Ieee.{Float}
 use Rattle.grid.proofs.Over.{shorter, past}
-use Rattle.params.specs.declared.RadonDetectorParams.{RadonDetectorParams}
-use Rattle.params.specs.declared.Outcome.{Outcome}
+use Rattle.params.specs.declared.settings.RadonDetectorParams.{RadonDetectorParams}
+use Rattle.params.specs.declared.answers.Outcome.{Outcome}
 use Rattle.params.specs.Answers.{numberOf, refused}
-use Rattle.detect.specs.Window.{value}
+use Rattle.grid.specs.Ways.{value}
 use Rattle.detect.specs.Corners.{numbers, stride}
-use Rattle.detect.specs.Detected.{refusalFor, foundIn, fullOr, outcomeOf, listOf}
+use Rattle.detect.specs.Detected.{refusalFor, foundIn, fullOr, peaksOutcome, listOf}
 use Rattle.detect.proofs.Scanning.{numbers-long}
 use Rattle.detect.proofs.HigherSettings.{accepted-list}
 
@@ -25,11 +25,12 @@ module _ (s : RadonDetectorParams) (w h : ℕ) (resp : List Float) (image : List
   done len = record { answer = fullOr (length (foundIn s w h resp image)) (len / stride); count = length (foundIn s w h resp image); w = w; h = h }
 
   -- the total does not depend on the room
-  pub same-total : (a b : ℕ) → (outcomeOf s w h resp image a) .count ≡ (outcomeOf s w h resp image b) .count
-  unfolding outcomeOf
+  pub same-total : (a b : ℕ) → (peaksOutcome s w h resp image a) .count ≡ (peaksOutcome s w h resp image b) .count
+  unfolding peaksOutcome
   same-total a b = go (eqb (numberOf (refusalFor s w h resp image)) 0)
     where
-      go : (t : Bool) → (cond t (done a) (refused (refusalFor s w h resp image))) .count ≡ (cond t (done b) (refused (refusalFor s w h resp image))) .count
+      go : (t : Bool) → (cond t (done a) (refused (refusalFor s w h resp image))) .count
+          ≡ (cond t (done b) (refused (refusalFor s w h resp image))) .count
       go true = refl
       go false = refl
 
@@ -41,4 +42,6 @@ module _ (s : RadonDetectorParams) (w h : ℕ) (resp : List Float) (image : List
         (shorter stride (numbers s (value resp w)) (numbers-long s (value resp w)) (foundIn s w h resp image) short long (lit< tt) l)
 
     pub beyond : drop (writtenLength (length short)) (listOf s w h resp image short) ≡ drop (writtenLength (length short)) short
-    beyond = rw (accepted-list s w h resp image short accepted) (past stride (numbers s (value resp w)) (numbers-long s (value resp w)) (foundIn s w h resp image) short)
+    beyond =
+        rw (accepted-list s w h resp image short accepted)
+        (past stride (numbers s (value resp w)) (numbers-long s (value resp w)) (foundIn s w h resp image) short)

@@ -1,26 +1,24 @@
 -- Document 01, "Rules of the list": the verdict on a candidate, the corners in row order, and the numbers of each.
 -- A map f and an image g are functions: f x y and g x y are what column x of row y has.
-use mathlib.Core.Bool.{Bool, true, false, not, cond}
-use Prim.Native.Nat.{ℕ, _+_, _-_, _*_}
+use mathlib.Core.Bool.{Bool, true, false, not}
+use Prim.Native.Nat.{ℕ, _+_, _-_}
 use mathlib.Core.List.{List, [], _∷_}
 use lib.Dec.{leb}
 use lib.IntN.{pos}
 use lib.Ieee.{Float, binary32, lt, add, mul, ofInt}
-use Rattle.float.specs.Values.{f0}
-use Rattle.grid.specs.Fold.{fold}
-use Rattle.grid.specs.Plane.{plane}
 use Rattle.grid.specs.Each.{keep}
 use Rattle.grid.specs.Rect.{Place, rect}
-use Rattle.params.specs.declared.RadonDetectorParams.{RadonDetectorParams}
+use Rattle.params.specs.declared.settings.RadonDetectorParams.{RadonDetectorParams}
 use Rattle.params.specs.Settings.{rayOf}
 use Rattle.params.specs.Coordinates.{toInput}
-use Rattle.detect.specs.declared.saddle.Saddle.{Saddle}
-use Rattle.detect.specs.declared.saddle.Saddle.the-variants.{Yes, Flat, Curved}
+use Rattle.saddle.specs.declared.Saddle.{Saddle}
+use Rattle.saddle.specs.declared.Saddle.the-variants.{Yes, Flat, Curved}
 use Rattle.detect.specs.declared.verdict.Verdict.{Verdict}
 use Rattle.detect.specs.declared.verdict.Verdict.the-variants.{NotAbove, Beaten, TooFew, TooFlat, WrongCurvature, Kept}
-use Rattle.detect.specs.Saddle.{saddleOf, saddleAt}
-use Rattle.detect.specs.PeakFit.{fitOf}
+use Rattle.saddle.specs.Saddle.{saddleOf, saddleAt}
+use Rattle.peak_fit.specs.PeakFit.{fitOf}
 use Rattle.detect.specs.Window.{at, beaten, positives}
+use Rattle.detect.specs.Maximum.{maximum}
 
 -- ---- "The border is ray + suppression radius + 1"
 
@@ -33,17 +31,8 @@ candidates w h b = rect b (w - b) b (h - b)
 
 -- ---- "the floor (fraction times the map's maximum, one product)"
 
--- the greater of two, the first where neither is
-abbrev pub greater : Float → Float → Float
-greater m v = cond (lt m v) v m
-
--- The map's maximum, from 0 up. The source starts below every value and takes a floor under 0 as 0: where no value is above 0,
--- nothing is above either floor. Where the maximum is infinite the source finds nothing, and here nothing is above the product.
-unfoldable pub peak : ℕ → ℕ → (ℕ → ℕ → Float) → Float
-peak w h f = fold greater f0 (plane w f) (w * h)
-
 unfoldable pub floorOf : RadonDetectorParams → ℕ → ℕ → (ℕ → ℕ → Float) → Float
-floorOf s w h f = mul binary32 (s .«threshold_rel») (peak w h f)
+floorOf s w h f = mul binary32 (s .«threshold_rel») (maximum w h f)
 
 -- ---- the verdict: the first rule that fails, or kept
 
@@ -65,7 +54,8 @@ isSaddle s g p = saddleAt (saddleOf (rayOf (s .«ray_radius»))) (rayOf (s .«ra
 
 unfoldable pub verdict : RadonDetectorParams → Float → (ℕ → ℕ → Float) → (ℕ → ℕ → ℕ) → Place → Verdict
 verdict s floor f g p =
-    firstFailing (lt floor (at f p)) (not (beaten f (s .«nms_radius») p)) (leb (s .«min_cluster_size») (positives f (s .«nms_radius») p)) (isSaddle s g p)
+    firstFailing (lt floor (at f p)) (not (beaten f (s .«nms_radius») p)) (leb (s .«min_cluster_size») (positives f (s .«nms_radius») p))
+    (isSaddle s g p)
 
 abbrev pub isKept : Verdict → Bool
 isKept NotAbove = false

@@ -5,23 +5,22 @@ use mathlib.Core.List.{List}
 use lib.ListN.{length}
 use lib.Dec.{ltb, leb, eqb}
 use lib.Ieee.{Float}
-use Rattle.grid.specs.Ways.{pixel}
+use Rattle.grid.specs.Ways.{pixel, value}
 use Rattle.grid.specs.Rect.{Place}
 use Rattle.grid.specs.Over.{written}
-use Rattle.params.specs.declared.Answer.{Answer}
-use Rattle.params.specs.declared.Answer.the-variants.{Complete, ListFull, SideTooLong, TooManyPixels}
-use Rattle.params.specs.declared.Outcome.{Outcome}
-use Rattle.params.specs.declared.RadonDetectorParams.{RadonDetectorParams}
+use Rattle.params.specs.declared.answers.Answer.{Answer}
+use Rattle.params.specs.declared.answers.Answer.the-variants.{Complete, ListFull, SideTooLong, TooManyPixels}
+use Rattle.params.specs.declared.answers.Outcome.{Outcome}
+use Rattle.params.specs.declared.settings.RadonDetectorParams.{RadonDetectorParams}
 use Rattle.params.specs.Answers.{numberOf, refused}
 use Rattle.params.specs.Refusals.{pick, orElse, mapRefusal, listRefusal, roomRefusal}
-use Rattle.detect.specs.Window.{value}
 use Rattle.detect.specs.Corners.{corners, numbers, stride}
 
 -- 2 a working side over 8,192, twice the input's 4,096; 4 W·H over 8,388,608
 unfoldable pub workingRefusal : ℕ → ℕ → Answer
 workingRefusal w h =
-    pick (ltb 8192 w || ltb 8192 h) SideTooLong
-    (pick (ltb 8388608 (w * h)) TooManyPixels
+    cond (ltb 8192 w || ltb 8192 h) SideTooLong
+    (cond (ltb 8388608 (w * h)) TooManyPixels
     Complete)
 
 -- "The lowest number that applies is given": 2 and 4; 5 and 6, and 7 and 8 as for every call with settings; 9 response or image shorter than W·H
@@ -41,9 +40,9 @@ abbrev pub fullOr : ℕ → ℕ → Answer
 fullOr found room = cond (leb found room) Complete ListFull
 
 -- the answer, with "found" as its count; "its room is its length divided by three, rounded down"
-unfoldable pub outcomeOf : RadonDetectorParams → ℕ → ℕ → List Float → List ℕ → ℕ → Outcome
+unfoldable pub peaksOutcome : RadonDetectorParams → ℕ → ℕ → List Float → List ℕ → ℕ → Outcome
 unfolding peaksRefusal
-outcomeOf s w h resp image len =
+peaksOutcome s w h resp image len =
     cond (eqb (numberOf (refusalFor s w h resp image)) 0)
     (record { answer = fullOr (length (foundIn s w h resp image)) (len / stride); count = length (foundIn s w h resp image); w = w; h = h })
     (refused (refusalFor s w h resp image))

@@ -1,18 +1,13 @@
 -- Document 01, "Rules of the list": a candidate's square suppression window, what beats the candidate there, and its positive neighbours.
 -- A map is a function f: f x y is the value in column x of row y.
 use mathlib.Core.Bool.{Bool, not, _&&_}
-use Prim.Native.Nat.{ℕ, _+_, _-_, _*_}
+use Prim.Native.Nat.{ℕ, _+_, _-_}
 use mathlib.Core.List.{List}
-use lib.ListN.{getD}
 use lib.Dec.{eqb}
-use lib.Ieee.{Float, nan, lt}
+use lib.Ieee.{Float, lt}
 use Rattle.float.specs.Values.{f0}
 use Rattle.grid.specs.Each.{any, count}
 use Rattle.grid.specs.Rect.{Place, rect}
-
--- what a buffer w wide has at column x of row y
-abbrev pub value : List Float → ℕ → ℕ → ℕ → Float
-value s w x y = getD s (y * w + x) nan
 
 abbrev pub at : (ℕ → ℕ → Float) → Place → Float
 at f p = f (p .x) (p .y)

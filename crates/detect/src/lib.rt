@@ -1,19 +1,19 @@
 // The list: which pixels of the map are corners, and where between the pixels each one lies.
-mod above;
+mod crests;
+mod maximum;
 mod neighbors;
-mod peak_fit;
 mod peaks;
-mod saddle;
 mod verdict;
 
 use params::Answer;
 use params::Outcome;
 use params::RadonDetectorParams;
 use peaks::find_peaks;
+use peaks::scan_of;
+use sizes::lesser;
 ghost use mathlib.Core.Path.{_≡_};
-ghost use Prim.Native.Nat.{min};
 ghost use lib.ListN.{length};
-ghost use Rattle.detect.specs.Detected.{workingRefusal, peaksRefusal, fullOr, outcomeOf, listOf};
+ghost use Rattle.detect.specs.Detected.{workingRefusal, peaksRefusal, fullOr, peaksOutcome, listOf};
 
 // Twice the input's longest side.
 const MAX_WORKING_SIDE: usize = 8192;
@@ -21,7 +21,7 @@ const MAX_WORKING_SIDE: usize = 8192;
 const MAX_WORKING_PIXELS: usize = 8388608;
 
 // Answers 2 and 4, for a working size.
-fn judge_working(w: usize, h: usize) -> Answer
+fn judge_working_size(w: usize, h: usize) -> Answer
     ensures { λ r. ⌜ r ≡ workingRefusal w h ⌝ }
 {
     if w > MAX_WORKING_SIDE {
@@ -36,24 +36,18 @@ fn judge_working(w: usize, h: usize) -> Answer
     Answer::Complete
 }
 
-// The lowest answer that applies: `room` is the length of the shorter of the two buffers.
-fn judge(w: usize, h: usize, params: RadonDetectorParams, room: usize) -> Answer
+// The lowest answer that applies to a call: `room` is the length of the shorter of its two buffers.
+fn judge_call(w: usize, h: usize, params: RadonDetectorParams, room: usize) -> Answer
     ensures { λ r. ⌜ r ≡ peaksRefusal w h params room ⌝ }
 {
-    let size = judge_working(w, h);
+    let size = judge_working_size(w, h);
     if size.number() != 0 {
         return size;
     }
-    let map = params::judge_map(params);
-    let list = params::judge_list(params);
+    let map = params::judge_map_settings(params);
+    let list = params::judge_list_settings(params);
     let lent = params::judge_room(w * h, room);
     map.or_else(list.or_else(lent))
-}
-
-fn shorter(a: usize, b: usize) -> usize
-    ensures { λ r. ⌜ r ≡ min a b ⌝ }
-{
-    if a < b { a } else { b }
 }
 
 // Whether as many corners were stored as found.
@@ -75,15 +69,16 @@ pub fn detect_peaks_from_radon(
     params: RadonDetectorParams,
     list: &mut [f32],
 ) -> Outcome
-    ensures answer { λ r. ⌜ r ≡ outcomeOf params w h (now (response .entry)) (now (image .entry)) (length (now (list .entry))) ⌝ }
+    ensures answer { λ r. ⌜ r ≡ peaksOutcome params w h (now (response .entry)) (now (image .entry)) (length (now (list .entry))) ⌝ }
     ensures written { λ _. ⌜ now (list .exit) ≡ listOf params w h (now (response .entry)) (now (image .entry)) (now (list .entry)) ⌝ }
 {
-    let refusal = judge(w, h, params, shorter(response.len(), image.len()));
+    let refusal = judge_call(w, h, params, lesser(response.len(), image.len()));
     if refusal.number() != 0 {
         return Outcome::refusal(refusal);
     }
-    let found = find_peaks(response, image, w, h, params, list);
-    let stored = shorter(found, list.len() / 3);
+    let scan = scan_of(response, w, h, params);
+    let found = find_peaks(response, image, scan, list);
+    let stored = lesser(found, list.len() / 3);
     Outcome {
         answer: full_or(found, stored),
         count: found,

@@ -1,29 +1,33 @@
 // The scan: the candidates that are kept, in row order, stored as far as the list has room and counted in any case.
-use super::above::max_response;
-use super::above::next_candidate;
+//
+// `scan_of` fixes what the whole scan goes by: the floor, one product of the map's maximum, and the saddle numbers of the ray radius.
+// `find_peaks` goes through the rows inside the border from the top, and `find_in_row` walks a row from its first column inside to its
+// last. `next_in_row` takes it from one place to the next that may be kept: a run of values at or under the floor, or less than a
+// neighbour in the row, is passed over unjudged, since no such place is kept. Where it stops, `list_if_kept` judges the candidate by all
+// rules. A kept one is counted, and while the list has room its three numbers are stored as the next of the list.
+use super::crests::next_candidate;
+use super::maximum::max_response;
 use super::peak_fit::fit_peak_frac;
-use super::saddle::SaddleTest;
 use super::saddle::new;
+use super::verdict::Scan;
 use super::verdict::is_kept;
 use super::verdict::judge_at;
 use params::Input;
 use params::PeakFitMode;
 use params::RadonDetectorParams;
 use params::Working;
+use peak_fit::fit_peak_frac;
+use saddle::SaddleTest;
+use saddle::new;
 ghost use mathlib.Core.Path.{_≡_};
-ghost use Prim.Native.Nat.{_+_, _-_, _*_, _/_, _<_, _≤_};
+ghost use Prim.Native.Nat.{_+_, _*_, _/_, _<_, _≤_};
 ghost use mathlib.Core.List.{[], _∷_};
 ghost use lib.ListN.{length};
 ghost use lib.Seq.{sets};
 ghost use Rattle.grid.specs.Rect.{place};
-ghost use Rattle.grid.specs.Ways.{pixel};
-ghost use Rattle.grid.specs.Over.{written};
-ghost use Rattle.detect.specs.Window.{value};
-ghost use Rattle.detect.specs.PeakFit.{fitOf};
-ghost use Rattle.detect.specs.Above.{entry};
-ghost use Rattle.detect.specs.Corners.{borderOf, stride, inputAt, numbers, corners};
-ghost use Rattle.detect.specs.Room.{Room};
-ghost use Rattle.detect.specs.Scan.{Asked, Finding, RowFound};
+ghost use Rattle.detect.specs.Corners.{borderOf, stride, inputAt};
+ghost use Rattle.detect.specs.Room.{Cross};
+ghost use Rattle.detect.specs.Scan.{scanOf, floorIn, fitAround, numbersIn, Judging, Candidate, Finding, NextInRow, Entered, RowFound, Found};
 
 // How far candidates stay from every edge: the window, the rays and one pixel for the fit lie inside.
 fn border(params: RadonDetectorParams) -> usize
@@ -35,7 +39,7 @@ fn border(params: RadonDetectorParams) -> usize
 // The offset of a peak at c from its two neighbours, `step` before and after.
 fn fitted(resp: &[f32], c: usize, step: usize, mode: PeakFitMode) -> f32
     requires { ⌜ (step ≤ c) × (c + step < length (now resp)) ⌝ }
-    ensures { λ r. ⌜ r ≡ fitOf mode (entry (now (resp .entry)) (c - step)) (entry (now (resp .entry)) c) (entry (now (resp .entry)) (c + step)) ⌝ }
+    ensures { λ r. ⌜ r ≡ fitAround mode (now (resp .entry)) c step ⌝ }
 {
     fit_peak_frac(resp[c - step], resp[c], resp[c + step], mode)
 }
@@ -60,20 +64,13 @@ fn store(list: &mut [f32], n: usize, x: Input, y: Input, strength: f32)
 }
 
 // The corner at (x, y) as the n-th of the list.
-fn put_corner(
-    list: &mut [f32],
-    n: usize,
-    resp: &[f32],
-    w: usize,
-    h: usize,
-    params: RadonDetectorParams,
-    x: usize,
-    y: usize,
-)
-    requires { ⌜ Room w h 1 x y (length (now resp)) × (n < length (now list) / stride) ⌝ }
-    ensures { λ _. ⌜ now (list .exit) ≡ sets (now (list .entry)) (stride * n) (numbers params (value (now (resp .entry)) w) (place x y)) ⌝ }
+fn put_corner(list: &mut [f32], n: usize, resp: &[f32], scan: Scan, x: usize, y: usize)
+    requires { ⌜ Cross (scan .w) x y (length (now resp)) × (n < length (now list) / stride) ⌝ }
+    ensures { λ _. ⌜ now (list .exit) ≡ sets (now (list .entry)) (stride * n) (numbersIn scan (now (resp .entry)) (place x y)) ⌝ }
 {
+    let w = scan.w;
     let c = y * w + x;
+    let params = scan.params;
     let mode = params.peak_fit;
     let fx = fitted(resp, c, 1, mode);
     let fy = fitted(resp, c, w, mode);
@@ -81,71 +78,106 @@ fn put_corner(
     store(list, n, input_at(up, x, fx), input_at(up, y, fy), resp[c]);
 }
 
-// The corners of row y, after the n that are found above it. Places that cannot be kept are passed over in runs.
-fn find_in_row(
+// The candidate at (x, y), after n corners: judged and, if it is kept, stored where there is room. How many corners there are then.
+fn list_if_kept(
     resp: &[f32],
     image: &[u8],
-    w: usize,
-    h: usize,
-    params: RadonDetectorParams,
-    t: SaddleTest,
-    floor: f32,
+    scan: Scan,
+    x: usize,
     y: usize,
     n: usize,
     list: &mut [f32],
 ) -> usize
-    requires { ⌜ Finding params t w h y n (length (now resp)) (length (now image)) ⌝ }
-    ensures { λ r. ⌜ RowFound params floor w h (value (now (resp .entry)) w) (pixel (now (image .entry)) w) y (now (list .entry)) n (now (list .exit)) r ⌝ }
+    requires { ⌜ Candidate scan x y (length (now resp)) (length (now image)) × (n ≤ 8192 * 8192) ⌝ }
+    ensures { λ r. ⌜ Entered scan (now (resp .entry)) (now (image .entry)) x y (now (list .entry)) n (now (list .exit)) r ⌝ }
 {
-    let room = list.len() / 3;
-    let b = border(params);
-    let ex = w - b;
+    if is_kept(judge_at(resp, image, scan, x, y)) {
+        if n < list.len() / 3 {
+            put_corner(list, n, resp, scan, x, y);
+        }
+        return n + 1;
+    }
+    n
+}
+
+// The next place of row y from `from` on, and before `to`, that may be kept; `to` where there is none.
+fn next_in_row(resp: &[f32], scan: Scan, y: usize, from: usize, to: usize) -> usize
+    requires { ⌜ (1 ≤ from) × (from ≤ to) × (to < scan .w) × (y * scan .w + scan .w ≤ length (now resp)) ⌝ }
+    ensures { λ i. ⌜ NextInRow scan (now (resp .entry)) y from to i ⌝ }
+{
+    let w = scan.w;
     let a = y * w;
     let e = a + w;
-    let row = &resp[a..e];
-    let r = params.nms_radius as usize;
+    let params = scan.params;
+    next_candidate(
+        &resp[a..e],
+        from,
+        to,
+        scan.floor,
+        params.nms_radius as usize,
+    )
+}
+
+// The corners of row y, after the n that are found above it.
+fn find_in_row(
+    resp: &[f32],
+    image: &[u8],
+    scan: Scan,
+    y: usize,
+    n: usize,
+    list: &mut [f32],
+) -> usize
+    requires { ⌜ Finding scan y n (length (now resp)) (length (now image)) ⌝ }
+    ensures { λ r. ⌜ RowFound scan (now (resp .entry)) (now (image .entry)) y (now (list .entry)) n (now (list .exit)) r ⌝ }
+{
+    let b = border(scan.params);
+    let ex = scan.w - b;
     let mut count = n;
-    let mut x = next_candidate(row, b, ex, floor, r);
+    let mut x = next_in_row(resp, scan, y, b, ex);
     while x < ex {
-        if is_kept(judge_at(resp, image, w, h, params, t, floor, x, y)) {
-            if count < room {
-                put_corner(list, count, resp, w, h, params, x, y);
-            }
-            count += 1;
-        }
-        x = next_candidate(row, x + 1, ex, floor, r);
+        count = list_if_kept(resp, image, scan, x, y, count, list);
+        x = next_in_row(resp, scan, y, x + 1, ex);
     }
     count
 }
 
-// All corners, and how many there are.
-pub fn find_peaks(
-    resp: &[f32],
-    image: &[u8],
-    w: usize,
-    h: usize,
-    params: RadonDetectorParams,
-    list: &mut [f32],
-) -> usize
-    requires { ⌜ Asked params w h (length (now resp)) (length (now image)) ⌝ }
-    ensures { λ n. ⌜ n ≡ length (corners params w h (value (now (resp .entry)) w) (pixel (now (image .entry)) w)) ⌝ }
-    ensures { λ n. ⌜ now (list .exit) ≡ written stride (numbers params (value (now (resp .entry)) w)) (corners params w h (value (now (resp .entry)) w) (pixel (now (image .entry)) w)) (now (list .entry)) ⌝ }
+// What the scan of a map goes by.
+pub fn scan_of(resp: &[f32], w: usize, h: usize, params: RadonDetectorParams) -> Scan
+    requires { ⌜ (w * h ≤ length (now resp)) × (params .«ray_radius» ≤ 7) ⌝ }
+    ensures { λ c. ⌜ c ≡ scanOf params w h (now (resp .entry)) ⌝ }
 {
-    let b = border(params);
+    let all = w * h;
+    let floor = params.threshold_rel * max_response(&resp[..all]);
+    let k = params.ray_radius_clamped() as usize;
+    let t = new(k);
+    Scan {
+        w,
+        h,
+        params,
+        test: t,
+        floor,
+    }
+}
+
+// All corners, and how many there are.
+pub fn find_peaks(resp: &[f32], image: &[u8], scan: Scan, list: &mut [f32]) -> usize
+    requires { ⌜ Judging scan (length (now resp)) (length (now image)) ⌝ }
+    requires { ⌜ scan .floor ≡ floorIn scan (now resp) ⌝ }
+    ensures { λ n. ⌜ Found scan (now (resp .entry)) (now (image .entry)) (now (list .entry)) n (now (list .exit)) ⌝ }
+{
+    let b = border(scan.params);
+    let w = scan.w;
+    let h = scan.h;
     if w <= 2 * b {
         return 0;
     }
     if h <= 2 * b {
         return 0;
     }
-    let all = w * h;
-    let floor = params.threshold_rel * max_response(&resp[..all]);
-    let k = params.ray_radius_clamped() as usize;
-    let t = new(k);
     let ey = h - b;
     let mut count: usize = 0;
     for y in b..ey {
-        count = find_in_row(resp, image, w, h, params, t, floor, y, count, list);
+        count = find_in_row(resp, image, scan, y, count, list);
     }
     count
 }

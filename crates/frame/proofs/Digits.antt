@@ -1,53 +1,102 @@
--- The two steps of `text::number`, a single digit, and the digits before the last with that behind them; and a numeral with a byte behind it. Assumes nothing.
-use mathlib.Core.Path.{_≡_, ap, _∙_}
-use mathlib.Core.Bool.{true, false}
+-- The two steps of `text::number`, a single digit, and the digits before the last with that behind them; and a numeral
+-- with a byte behind it. Assumes nothing.
+use mathlib.Core.Path.{_≡_, sym, ap, _∙_}
+use mathlib.Core.Bool.{Bool, true, false}
 use mathlib.Core.List.{[], _∷_, _++_}
-use Prim.Native.Nat.{ℕ, _+_, _-_, _/_, _%_, _^_, suc, _≤_, _<_}
+use Prim.Native.Nat.{ℕ, _+_, _-_, _/_, _%_, _≤_, _<_}
+use native.Mathlib.Nat.{lt-of-lt-of-le, mod-lt}
 use native.Mathlib.Omega.{arith}
+use lib.Dec.{lit≤}
 use lib.ListN.{length, length-append}
 use Rattle.frame.specs.declared.Line.{Line}
 use Rattle.frame.specs.Printed.{digitOf, numeral}
-use Rattle.frame.specs.Numerals.{single, numeral-last, numeral-more, numeral-some, numeral-most}
-use Rattle.frame.specs.Appended.{appended, appended-more, appended-len, Grown}
+use Rattle.frame.specs.Lines.{Short, appended, Grown}
+use Rattle.frame.proofs.Numerals.{single, single-yes, falls}
+use Rattle.frame.proofs.Numerals.{numeral-last, numeral-more, numeral-some, numeral-most}
+use Rattle.frame.proofs.Appended.{appended-more, appended-len}
 
-module _ (line : Line) (base least n : ℕ) (two : 2 ≤ base) (room : line .len + length (numeral base least n) ≤ 64) where
-  pub last-room : line .len < 64
-  last-room = omega (arith, numeral-some base two least n)
+-- what `text::number` asks, and the measure t of the call
+pub record Due (line : Line) (base least n t : ℕ) : Type 0 where
+  pub measure : n + least ≡ t
+  pub two : 2 ≤ base
+  pub most : base ≤ 16
+  pub room : line .len + length (numeral base least n) ≤ 64
 
-  pub last-is : {d : ℕ} {r : Line} → single base least n ≡ true → d ≡ digitOf n → r ≡ appended line (d ∷ []) → r ≡ appended line (numeral base least n)
-  last-is e f g = rw (numeral-last base two least n e) (g ∙ ap (λ (d : ℕ). appended line (d ∷ [])) f)
+module _ {line : Line} {base least n t : ℕ} (due : Due line base least n t)
+    {one : Bool} (is : one ≡ single base least n) where
+  -- ---- one digit
 
-  -- h is the line with the higher digits behind it
-  module _ {m : ℕ} (no : single base least n ≡ false) (less : m ≡ least - 1) where
-    long : length (numeral base least n) ≡ length (numeral base m (n / base)) + 1
-    long = rw (less, numeral-more base two least n no) (length-append (numeral base (least - 1) (n / base)) (digitOf (n % base) ∷ []))
+  module _ (yes : one ≡ true) where
+    pub last-digit : n < 16
+    last-digit = lt-of-lt-of-le (single-yes base least n (sym is ∙ yes) .0) (due .most)
 
-    pub more-room : line .len + length (numeral base m (n / base)) ≤ 64
-    more-room = omega (arith, long)
+    pub last-room : line .len < 64
+    last-room = omega (arith, due .room, numeral-some base (due .two) least n)
 
-    pub push-room : {h : Line} → h ≡ appended line (numeral base m (n / base)) → h .len < 64
-    unfolding appended
-    push-room e = omega (arith, long, ap (λ (x : Line). x .len) e)
+    pub last-is : {d : ℕ} {r : Line} → d ≡ digitOf n → r ≡ appended line (d ∷ [])
+        → r ≡ appended line (numeral base least n)
+    last-is f g =
+        rw (numeral-last base (due .two) least n (sym is ∙ yes))
+        (g ∙ ap (λ (d : ℕ). appended line (d ∷ [])) f)
 
-    pub more-is : {d : ℕ} {h r : Line} → h ≡ appended line (numeral base m (n / base)) → d ≡ digitOf (n % base) → r ≡ appended h (d ∷ []) → r ≡ appended line (numeral base least n)
-    more-is {d} {h} e f g =
-        rw (numeral-more base two least n no, ← less)
-        (g ∙ ap (λ (x : Line). appended x (d ∷ [])) e ∙ appended-more line (numeral base m (n / base)) (d ∷ []) ∙ ap (λ (c : ℕ). appended line (numeral base m (n / base) ++ (c ∷ []))) f)
+  -- ---- the digits before the last, m of them at least, and the last
 
--- a numeral of at most k digits, and a byte behind it
-module _ (k base least n : ℕ) (two : 2 ≤ base) (some : 1 ≤ k) (few : least ≤ k) (small : n < base ^ k) (line : Line) where
-  short : length (numeral base least n) ≤ k
-  short = numeral-most base two least n k some few small
+  module _ (no : one ≡ false) where
+    pub next-digit : n % base < 16
+    next-digit = lt-of-lt-of-le (mod-lt n (omega (arith, due .two))) (due .most)
 
-  module _ (room : line .len + suc k ≤ 64) where
-    pub numeral-room : line .len + length (numeral base least n) ≤ 64
-    numeral-room = omega (arith, short)
+    module _ {m : ℕ} (less : m ≡ least - 1) where
+      long : length (numeral base least n) ≡ length (numeral base m (n / base)) + 1
+      long =
+          rw (less, numeral-more base (due .two) least n (sym is ∙ no))
+          (length-append (numeral base (least - 1) (n / base)) (digitOf (n % base) ∷ []))
+
+      -- what the call for them asks: its measure falls
+      pub before-last : (n / base + m < t) × (2 ≤ base) × (base ≤ 16)
+          × (line .len + length (numeral base m (n / base)) ≤ 64)
+      before-last = (
+        rw (less, ← due .measure) (falls base (due .two) least n (sym is ∙ no)),
+        due .two,
+        due .most,
+        omega (arith, due .room, long),
+      )
+
+      -- h is the line with them behind it
+      module _ {h : Line} (higher : h ≡ appended line (numeral base m (n / base))) where
+        pub push-room : h .len < 64
+        push-room = omega (arith, due .room, long, appended-len line (numeral base m (n / base)) higher)
+
+        pub more-is : {d : ℕ} {r : Line} → d ≡ digitOf (n % base) → r ≡ appended h (d ∷ [])
+            → r ≡ appended line (numeral base least n)
+        more-is {d} f g =
+            rw (numeral-more base (due .two) least n (sym is ∙ no), ← less)
+            (g ∙ ap (λ (x : Line). appended x (d ∷ [])) higher
+            ∙ appended-more line (numeral base m (n / base)) (d ∷ [])
+            ∙ ap (λ (c : ℕ). appended line (numeral base m (n / base) ++ (c ∷ []))) f)
+
+-- ---- a numeral that is short, and a byte behind it
+
+module _ {base least n : ℕ} (s : Short base least n) (line : Line) where
+  most : length (numeral base least n) ≤ 20
+  most = numeral-most base (s .two) least n 20 (lit≤ tt) (s .few) (s .small)
+
+  module _ (room : line .len + 21 ≤ 64) where
+    pub numeral-asks : (2 ≤ base) × (base ≤ 16) × (line .len + length (numeral base least n) ≤ 64)
+    numeral-asks = (s .two, s .most, omega (arith, most))
 
     pub end-room : {h : Line} → h ≡ appended line (numeral base least n) → h .len < 64
-    end-room e = omega (arith, short, appended-len line (numeral base least n) e)
+    end-room e = omega (arith, most, appended-len line (numeral base least n) e)
 
-  pub ended : (end : ℕ) {h r : Line} → h ≡ appended line (numeral base least n) → r ≡ appended h (end ∷ []) → Grown (suc k) line (numeral base least n ++ (end ∷ [])) r
-  ended end e f = record {
-    is = f ∙ ap (λ (x : Line). appended x (end ∷ [])) e ∙ appended-more line (numeral base least n) (end ∷ []);
-    most = omega (arith, short, length-append (numeral base least n) (end ∷ []));
+  pub ended : (end : ℕ) {h r : Line} → h ≡ appended line (numeral base least n) → r ≡ appended h (end ∷ [])
+      → Grown 21 line (numeral base least n ++ (end ∷ [])) r
+  ended end e g = record {
+    is = g ∙ ap (λ (x : Line). appended x (end ∷ [])) e ∙ appended-more line (numeral base least n) (end ∷ []);
+    most = omega (arith, most, length-append (numeral base least n) (end ∷ []));
   }
+
+-- a machine number in decimal, and 32 bits in eight digits
+pub decimal-short : (n : ℕ) → n < 18446744073709551616 → Short 10 1 n
+decimal-short n h = record { two = lit≤ tt; most = lit≤ tt; few = lit≤ tt; small = omega arith }
+
+pub word-short : (n : ℕ) → n < 4294967296 → Short 16 8 n
+word-short n h = record { two = lit≤ tt; most = lit≤ tt; few = lit≤ tt; small = omega arith }

@@ -1,73 +1,83 @@
--- The tests of `readOf` in their order: what one answers where it applies, and that the next is asked where it does not; and the two ways out of a
--- field's reader. Assumes nothing.
-use mathlib.Core.Path.{_≡_, refl, sym, _∙_}
-use mathlib.Core.Bool.{Bool, true, false, not}
+-- The tests of `readOf` in their order: what one answers where it applies, and that the next is asked where it does
+-- not. Assumes nothing.
+use mathlib.Core.Path.{_≡_, refl, sym, ap, _∙_}
+use mathlib.Core.Bool.{Bool, true, false, not, cond}
 use mathlib.Core.List.{List}
 use Prim.Native.Nat.{ℕ, _≤_, _<_}
-use native.Mathlib.Decide.{decLe}
 use native.Mathlib.Omega.{arith}
-use borrow.Author.Tests.{le-leb, lt-leb, lt-ltb, le-ltb}
-use lib.Dec.{leb, ltb}
+use borrow.Author.Tests.{lt-ltb, le-ltb, eq-eqb, ne-eqb}
+use lib.Dec.{eqb}
 use lib.ListN.{length}
-use Rattle.params.specs.declared.Answer.{Answer}
-use Rattle.params.specs.declared.Answer.the-variants.{FileTooLong, FileTooShort}
+use Rattle.params.specs.declared.answers.Answer.{Answer}
+use Rattle.params.specs.declared.answers.Answer.the-variants.{FileTooLong, FileTooShort}
+use Rattle.params.specs.declared.settings.PeakFitMode.{PeakFitMode}
+use Rattle.params.specs.declared.settings.NumberedMode.{NumberedMode}
+use Rattle.params.specs.declared.settings.NumberedMode.the-variants as numbered
+use Rattle.params.specs.Settings.{modeNumbered, modeRefusal}
+use Rattle.frame.specs.declared.Header.{Header}
 use Rattle.frame.specs.declared.Reading.{Reading}
-use Rattle.frame.specs.declared.Reading.the-variants.{Refused}
+use Rattle.frame.specs.declared.Reading.the-variants.{Frame, Refused}
 use Rattle.frame.specs.declared.fields.Field.{Field}
 use Rattle.frame.specs.declared.fields.Field.the-variants as number
-use Rattle.frame.specs.FrameFile.{pick, readOf}
+use Rattle.frame.specs.FrameFile.{byteAt, headerOf, withMode, headerRead, readOf}
 use Rattle.frame.specs.Fields.{held, refusalOf}
+
+-- ---- the file's length
 
 module _ (limit : ℕ) (file : List ℕ) where
   pub too-long : limit < length file → Refused FileTooLong ≡ readOf limit file
   unfolding readOf
   too-long h = rw (lt-ltb limit (length file) h)
 
-  pub too-short : length file ≤ limit → length file < 20 → Refused FileTooShort ≡ readOf limit file
-  unfolding readOf
-  too-short e h = rw (le-ltb limit (length file) e, lt-ltb (length file) 20 h)
+  module _ (within : length file ≤ limit) where
+    pub too-short : length file < 20 → Refused FileTooShort ≡ readOf limit file
+    unfolding readOf
+    too-short h = rw (le-ltb limit (length file) within, lt-ltb (length file) 20 h)
 
-pub passed : (t : Bool) (a b : Reading) {r : Reading} → t ≡ false → r ≡ b → r ≡ pick t a b
-passed t a b h e = rw h e
+    pub long-enough : {r : Reading} → 20 ≤ length file → r ≡ headerRead file → r ≡ readOf limit file
+    unfolding readOf
+    long-enough h e = rw (le-ltb limit (length file) within, le-ltb (length file) 20 h) e
 
--- a field's reader refuses it, or hands out its value
-module _ (a : Answer) (t : Bool) (v : ℕ) where
-  pub refuses : t ≡ false → number.Refused a ≡ held a t v
+-- ---- a field that must hold one number
+
+-- its reader has read n
+module _ (a : Answer) (v due : ℕ) {n : ℕ} (is : n ≡ v) where
+  pub refuses : (n ≡ due → ⊥) → number.Refused a ≡ held a v due
   unfolding held
-  refuses h = rw h
+  refuses h = rw (← is, ne-eqb n due h)
 
-  pub holds : {n : ℕ} → n ≡ v → t ≡ true → number.Value n ≡ held a t v
+  pub holds : n ≡ due → number.Value n ≡ held a v due
   unfolding held
-  holds e h = rw (e, h)
+  holds h = rw (← is, eq-eqb n due h)
 
--- a field's outcome, from what its reader ensures of it
-module _ (a : Answer) (t : Bool) (v : ℕ) {f : Field} (is : f ≡ held a t v) where
-  pub value-is : {n : ℕ} → f ≡ number.Value n → (t ≡ true) × (n ≡ v)
+-- f is what its reader answers: with a value the next test is asked, otherwise reading ends with its refusal
+module _ (a : Answer) (v due : ℕ) {f : Field} (is : f ≡ held a v due) where
+  pub goes-on : {n : ℕ} {r rest : Reading} → f ≡ number.Value n → r ≡ rest → r ≡ cond (not (eqb v due)) (Refused a) rest
   unfolding held
-  value-is e = only t (sym e ∙ is)
+  goes-on {n} {r} {rest} e h = only (eqb v due) (sym e ∙ is)
     where
-      only : {n : ℕ} (t : Bool) → number.Value n ≡ held a t v → (t ≡ true) × (n ≡ v)
-      only true e = (refl, cc)
+      only : (t : Bool) → number.Value n ≡ cond t (number.Value v) (number.Refused a)
+          → r ≡ cond (not t) (Refused a) rest
+      only true e = h
       only false e = absurd (let z : _≡_ {A = ℕ} 0 1 = cc in omega arith)
 
-  pub refused-is : {b : Answer} → f ≡ number.Refused b → (t ≡ false) × (b ≡ a)
+  pub leaves : {b r : Answer} (rest : Reading) → f ≡ number.Refused b → r ≡ refusalOf f
+      → Refused r ≡ cond (not (eqb v due)) (Refused a) rest
   unfolding held
-  refused-is e = only t (sym e ∙ is)
+  leaves {b} {r} rest e h = only (eqb v due) (sym e ∙ is) (h ∙ ap refusalOf e)
     where
-      only : {b : Answer} (t : Bool) → number.Refused b ≡ held a t v → (t ≡ false) × (b ≡ a)
-      only true e = absurd (let z : _≡_ {A = ℕ} 0 1 = cc in omega arith)
-      only false e = (refl, cc)
+      only : (t : Bool) → number.Refused b ≡ cond t (number.Value v) (number.Refused a) → r ≡ b
+          → Refused r ≡ cond (not t) (Refused a) rest
+      only true e h = absurd (let z : _≡_ {A = ℕ} 0 1 = cc in omega arith)
+      only false e h = cc
 
-  -- with a value the next test is asked; otherwise reading ends with the refusal that the field carries
-  pub goes-on : {n : ℕ} {r rest : Reading} → f ≡ number.Value n → r ≡ rest → r ≡ pick (not t) (Refused a) rest
-  goes-on e h = rw (value-is e .0) h
+-- ---- the mode, which m is
 
-  pub leaves : {b r : Answer} (rest : Reading) → f ≡ number.Refused b → r ≡ refusalOf f → Refused r ≡ pick (not t) (Refused a) rest
-  leaves rest e h = rw (refused-is e .0) (cc (refused-is e .1))
+module _ (file : List ℕ) {m : NumberedMode} (is : m ≡ modeNumbered (byteAt file 12)) where
+  pub mode-known : {fit : PeakFitMode} {h : Header} → m ≡ numbered.Known fit → h ≡ headerOf file fit
+      → Frame h ≡ withMode file (modeNumbered (byteAt file 12))
+  mode-known e h = rw (← is, e, h)
 
-pub above : (m n : ℕ) → ltb n m ≡ not (leb m n)
-above m n = go (decLe m n)
-  where
-    go : Dec (m ≤ n) → ltb n m ≡ not (leb m n)
-    go (yes h) = rw (le-leb m n h, le-ltb n m h)
-    go (no h) = rw (lt-leb m n (omega arith), lt-ltb n m (omega arith))
+  pub mode-refused : {b r : Answer} → m ≡ numbered.Refused b → r ≡ modeRefusal m
+      → Refused r ≡ withMode file (modeNumbered (byteAt file 12))
+  mode-refused e h = rw (← is, e) (ap Refused (h ∙ ap modeRefusal e))

@@ -10,12 +10,13 @@ use lib.Dec.{eqb}
 use lib.Ieee.{Float}
 use lib.ListN.{length, getD, take, drop, length-append, List·getD-append, List·getD-eq-default}
 use lib.Seq.{getD-append-add, drop-drop, drop-cons}
-use Rattle.params.specs.declared.Outcome.{Outcome}
+use Rattle.params.specs.declared.answers.Outcome.{Outcome}
 use Rattle.params.specs.Answers.{numberOf}
 use Rattle.frame.specs.declared.Line.{Line}
-use Rattle.frame.specs.Printed.{refusedLine, firstLine, cornerLine, cornerLines, stored, fullLine, lastLines, printed}
-use Rattle.frame.specs.Lines.{Shows}
-use Rattle.frame.specs.Appended.{blank, shows}
+use Rattle.frame.specs.Printed.{refusedLine, firstLine, cornerLine, cornerLines, stored}
+use Rattle.frame.specs.Printed.{fullLine, lastLines, printed}
+use Rattle.frame.specs.Lines.{Shows, blank}
+use Rattle.frame.proofs.Appended.{shows}
 
 -- ---- the corners' lines
 
@@ -24,20 +25,27 @@ unfolding cornerLines
 length-corners stride zero list = refl
 length-corners stride (suc n) list = ap suc (length-corners stride n (drop stride list))
 
-corner-at : (stride n : ℕ) (list : List Float) (k : ℕ) → k < n → getD (cornerLines stride n list) k [] ≡ cornerLine (take stride (drop (k * stride) list))
+corner-at : (stride n : ℕ) (list : List Float) (k : ℕ) → k < n
+    → getD (cornerLines stride n list) k [] ≡ cornerLine (take stride (drop (k * stride) list))
 unfolding cornerLines
 corner-at stride zero list k h = absurd (not-suc-le-zero h)
 corner-at stride (suc n) list zero h = rw zero-mul
 corner-at stride (suc n) list (suc k) h =
+    let further = add-comm stride (k * stride) ∙ sym (suc-mul k stride) in
     corner-at stride n (drop stride list) k (le-of-suc-le-suc h)
-    ∙ ap (λ (l : List Float). cornerLine (take stride l)) (drop-drop (k * stride) stride list ∙ ap (λ (m : ℕ). drop m list) (add-comm stride (k * stride) ∙ sym (suc-mul k stride)))
+    ∙ ap (λ (l : List Float). cornerLine (take stride l)) (drop-drop (k * stride) stride list)
+    ∙ ap (λ (m : ℕ). cornerLine (take stride (drop m list))) further
 
 -- three numbers of a list
-pub three : (list : List Float) (at : ℕ) (d : Float) → at + 2 < length list → take 3 (drop at list) ≡ getD list at d ∷ getD list (at + 1) d ∷ getD list (at + 2) d ∷ []
+pub three : (list : List Float) (at : ℕ) (d : Float) → at + 2 < length list
+    → take 3 (drop at list) ≡ getD list at d ∷ getD list (at + 1) d ∷ getD list (at + 2) d ∷ []
 three list at d h =
     let e : at + 1 ≡ suc at = omega arith in
     let f : at + 2 ≡ suc (suc at) = omega arith in
-    rw (e, f, drop-cons list at d (omega arith), drop-cons list (suc at) d (omega arith), drop-cons list (suc (suc at)) d (omega arith))
+    let a = drop-cons list at d (omega arith) in
+    let b = drop-cons list (suc at) d (omega arith) in
+    let c = drop-cons list (suc (suc at)) d (omega arith) in
+    rw (e, f, a, b, c)
 
 -- ---- a refusal's only line
 
@@ -70,28 +78,35 @@ pub record Listing (stride : ℕ) (o : Outcome) (list : List Float) (n corners :
   pub all : corners ≡ stored stride (o .count) list
 
 module _ {stride : ℕ} {o : Outcome} {list : List Float} {n corners : ℕ} (l : Listing stride o list n corners) where
-  listed : printed stride o list ≡ firstLine (o .w) (o .h) (o .count) ∷ (cornerLines stride corners list ++ lastLines (eqb n 1))
+  -- the corners' lines, and the one behind them
+  abbrev corner-lines : List (List ℕ)
+  corner-lines = cornerLines stride corners list
+
+  abbrev last : List (List ℕ)
+  last = lastLines (eqb n 1)
+
+  listed : printed stride o list ≡ firstLine (o .w) (o .h) (o .count) ∷ (corner-lines ++ last)
   unfolding printed
   listed = rw (← l .number, le-ltb 1 n (l .few), l .all)
 
   pub first-at : {i : ℕ} → i ≡ 0 → firstLine (o .w) (o .h) (o .count) ≡ getD (printed stride o list) i []
   first-at e = rw (listed, e)
 
-  pub corner-line : (i : ℕ) → (i ≡ 0 → ⊥) → i ≤ corners → cornerLine (take stride (drop ((i - 1) * stride) list)) ≡ getD (printed stride o list) i []
+  pub corner-line : (i : ℕ) → (i ≡ 0 → ⊥) → i ≤ corners
+      → cornerLine (take stride (drop ((i - 1) * stride) list)) ≡ getD (printed stride o list) i []
   corner-line zero h m = absurd (h refl)
   corner-line (suc k) h m =
       let e : suc k - 1 ≡ k = omega arith in
-      rw (listed, e, List·getD-append (cornerLines stride corners list) (lastLines (eqb n 1)) [] k (omega (arith, length-corners stride corners list)))
-      (sym (corner-at stride corners list k m))
+      let inside : k < length corner-lines = omega (arith, length-corners stride corners list) in
+      rw (listed, e, List·getD-append corner-lines last [] k inside) (sym (corner-at stride corners list k m))
 
-  behind : (i : ℕ) → corners < i → getD (printed stride o list) i [] ≡ getD (lastLines (eqb n 1)) (i - corners - 1) []
+  behind : (i : ℕ) → corners < i → getD (printed stride o list) i [] ≡ getD last (i - corners - 1) []
   behind zero h = absurd (not-suc-le-zero h)
   behind (suc k) h =
-      let before = cornerLines stride corners list in
-      let e : k ≡ length before + (suc k - corners - 1) = omega (arith, length-corners stride corners list) in
+      let e : k ≡ length corner-lines + (suc k - corners - 1) = omega (arith, length-corners stride corners list) in
       rw listed
-      (ap (λ (j : ℕ). getD (before ++ lastLines (eqb n 1)) j []) e
-      ∙ getD-append-add before (lastLines (eqb n 1)) (suc k - corners - 1) [])
+      (ap (λ (j : ℕ). getD (corner-lines ++ last) j []) e
+      ∙ getD-append-add corner-lines last (suc k - corners - 1) [])
 
   pub full-at : (i : ℕ) → n ≡ 1 → corners < i → i ≤ corners + 1 → fullLine ≡ getD (printed stride o list) i []
   full-at i e a b =
@@ -104,14 +119,14 @@ module _ {stride : ℕ} {o : Outcome} {list : List Float} {n corners : ℕ} (l :
   pub past-at : (i : ℕ) → corners + 1 < i → [] ≡ getD (printed stride o list) i []
   past-at i a =
       let z : 1 ≤ i - corners - 1 = omega arith in
-      sym (behind i (omega arith) ∙ List·getD-eq-default (lastLines (eqb n 1)) [] (omega (arith, most (eqb n 1))))
+      sym (behind i (omega arith) ∙ List·getD-eq-default last [] (omega (arith, most (eqb n 1))))
     where
       most : (b : Bool) → length (lastLines b) ≤ 1
       most true = omega arith
       most false = omega arith
 
-  long : length (printed stride o list) ≡ 1 + (corners + length (lastLines (eqb n 1)))
-  long = rw (listed, length-append (cornerLines stride corners list) (lastLines (eqb n 1)), length-corners stride corners list) (omega arith)
+  long : length (printed stride o list) ≡ 1 + (corners + length last)
+  long = rw (listed, length-append corner-lines last, length-corners stride corners list) (omega arith)
 
   pub full-length : n ≡ 1 → corners + 2 ≡ length (printed stride o list)
   full-length e = omega (arith, rw (eq-eqb n 1 e) at long)

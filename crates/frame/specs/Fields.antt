@@ -1,14 +1,15 @@
--- What a field's reader answers: the value where its test holds, and its own refusal where it does not.
-use mathlib.Core.Bool.{Bool, true, false}
+-- What the reader of a field that must hold one number answers: that number, or its own refusal.
+use mathlib.Core.Bool.{cond}
 use Prim.Native.Nat.{ℕ}
-use Rattle.params.specs.declared.Answer.{Answer}
-use Rattle.params.specs.declared.Answer.the-variants.{Complete}
+use lib.Dec.{eqb}
+use Rattle.params.specs.declared.answers.Answer.{Answer}
+use Rattle.params.specs.declared.answers.Answer.the-variants.{Complete}
 use Rattle.frame.specs.declared.fields.Field.{Field}
 use Rattle.frame.specs.declared.fields.Field.the-variants as number
 
-unfoldable pub held : Answer → Bool → ℕ → Field
-held a true v = number.Value v
-held a false v = number.Refused a
+-- v stands in the field, and it must be `due`
+unfoldable pub held : Answer → ℕ → ℕ → Field
+held a v due = cond (eqb v due) (number.Value v) (number.Refused a)
 
 -- the refusal that a field carries; one that has a value is not refused
 abbrev pub refusalOf : Field → Answer

@@ -3,7 +3,3 @@ pub mod FrameFile
 pub mod Fields
 pub mod Printed
 pub mod Lines
-pub mod Appended
-pub mod Numerals
-pub mod Worked
-pub mod RoundTrip

@@ -1,17 +1,26 @@
--- Document 01, "Frame file and printed list": what is printed for an outcome and a corner list, line by line, each line as its ASCII bytes.
-use mathlib.Core.Bool.{Bool, true, false, _&&_}
+-- Document 01, "Frame file and printed list": what is printed for an outcome and a corner list, line by line, each line
+-- as its ASCII bytes.
+use mathlib.Core.Bool.{Bool, true, false, _&&_, cond}
 use mathlib.Core.List.{List, [], _∷_, _++_, map}
 use Prim.Native.Nat.{ℕ, zero, suc, _+_, _-_, _/_, _%_, min}
+use Prim.Native.Char.{code}
+use Prim.Native.String.{String, [] as []ˢ, _∷_ as _∷ˢ_}
 use lib.Dec.{ltb, leb, eqb}
 use lib.Ieee.{Float, binary32, toBits}
 use lib.ListN.{length, getD, take, drop}
-use Rattle.params.specs.declared.Outcome.{Outcome}
+use Rattle.params.specs.declared.answers.Outcome.{Outcome}
 use Rattle.params.specs.Answers.{numberOf}
+
+-- a text as its bytes: every character here is ASCII, whose code is its byte
+abbrev pub ascii : String → List ℕ
+ascii []ˢ = []
+ascii (c ∷ˢ s) = code c ∷ ascii s
 
 -- ---- numerals
 
--- the digits of n in a base, the highest first: `least` of them at least, and no more than n needs. Where n is one digit, that; otherwise the digits
--- of n / base, and then n % base. There are no more than `depth`
+-- the digits of n in a base, the highest first: `least` of them at least, and no more than n needs. Where n is one
+-- digit, that; otherwise the digits of n / base, and then n % base. There are no more than `depth`. (By `elim`, not by
+-- `cond`, so that the numerals compute: only the branch that is taken is looked at.)
 unfoldable pub digitsIn : ℕ → ℕ → ℕ → ℕ → List ℕ
 digitsIn zero base least n = []
 digitsIn (suc depth) base least n = elim (ltb n base && leb least 1) [
@@ -22,9 +31,9 @@ digitsIn (suc depth) base least n = elim (ltb n base && leb least 1) [
 unfoldable pub digits : ℕ → ℕ → ℕ → List ℕ
 digits base least n = digitsIn (suc (n + least)) base least n
 
--- 0 to 9, then A to F
+-- "upper-case"
 abbrev pub digitOf : ℕ → ℕ
-digitOf d = getD (48 ∷ 49 ∷ 50 ∷ 51 ∷ 52 ∷ 53 ∷ 54 ∷ 55 ∷ 56 ∷ 57 ∷ 65 ∷ 66 ∷ 67 ∷ 68 ∷ 69 ∷ 70 ∷ []) d 0
+digitOf d = getD (ascii "0123456789ABCDEF") d 0
 
 unfoldable pub numeral : ℕ → ℕ → ℕ → List ℕ
 numeral base least n = map digitOf (digits base least n)
@@ -41,13 +50,13 @@ word x = numeral 16 8 (toBits binary32 x)
 
 -- "separated by single spaces; every line ends in a line feed"
 unfoldable pub row : List (List ℕ) → List ℕ
-row [] = 10 ∷ []
-row (f ∷ []) = f ++ (10 ∷ [])
-row (f ∷ g ∷ fs) = f ++ (32 ∷ row (g ∷ fs))
+row [] = ascii "\n"
+row (f ∷ []) = f ++ ascii "\n"
+row (f ∷ g ∷ fs) = f ++ (ascii " " ++ row (g ∷ fs))
 
 -- "A refusal prints `refused N`"
 unfoldable pub refusedLine : ℕ → List ℕ
-refusedLine n = row ((114 ∷ 101 ∷ 102 ∷ 117 ∷ 115 ∷ 101 ∷ 100 ∷ []) ∷ decimal n ∷ [])
+refusedLine n = row (ascii "refused" ∷ decimal n ∷ [])
 
 -- "the first line is W, H and the count in decimal"
 unfoldable pub firstLine : ℕ → ℕ → ℕ → List ℕ
@@ -67,19 +76,15 @@ stored stride count list = min count (length list / stride)
 
 -- "With answer 1 a last line `list full` follows"
 unfoldable pub fullLine : List ℕ
-fullLine = row ((108 ∷ 105 ∷ 115 ∷ 116 ∷ []) ∷ (102 ∷ 117 ∷ 108 ∷ 108 ∷ []) ∷ [])
+fullLine = row (ascii "list full" ∷ [])
 
 abbrev pub lastLines : Bool → List (List ℕ)
-lastLines true = fullLine ∷ []
-lastLines false = []
-
-abbrev pub pickLines : Bool → List (List ℕ) → List (List ℕ) → List (List ℕ)
-pickLines true a b = a
-pickLines false a b = b
+lastLines full = cond full (fullLine ∷ []) []
 
 -- answers above 1 are refusals
 unfoldable pub printed : ℕ → Outcome → List Float → List (List ℕ)
 printed stride o list =
-    pickLines (ltb 1 (numberOf (o .answer)))
+    cond (ltb 1 (numberOf (o .answer)))
     (refusedLine (numberOf (o .answer)) ∷ [])
-    (firstLine (o .w) (o .h) (o .count) ∷ (cornerLines stride (stored stride (o .count) list) list ++ lastLines (eqb (numberOf (o .answer)) 1)))
+    (firstLine (o .w) (o .h) (o .count)
+    ∷ (cornerLines stride (stored stride (o .count) list) list ++ lastLines (eqb (numberOf (o .answer)) 1)))

@@ -1,12 +1,13 @@
-// The fields of a frame file. A field that can be refused answers its value or which refusal it is; the others are numbers.
+// The fields of a frame file. One that can be refused answers its value or which refusal it is; the others are numbers.
 use params::Answer;
+use params::NumberedMode;
 use params::PeakFitMode;
 ghost use mathlib.Core.Path.{_≡_};
 ghost use Prim.Native.Nat.{_+_, _-_, _≤_, _<_};
-ghost use lib.Dec.{leb, eqb};
 ghost use lib.Ieee.{binary32, ofBits};
 ghost use lib.ListN.{length};
-ghost use Rattle.frame.specs.FrameFile.{byteAt, halfAt, wordAt, fitOf};
+ghost use Rattle.params.specs.Settings.{modeNumbered};
+ghost use Rattle.frame.specs.FrameFile.{byteAt, halfAt, wordAt};
 ghost use Rattle.frame.specs.Fields.{held, refusalOf};
 
 // A field's outcome.
@@ -64,7 +65,7 @@ pub fn word(file: &[u8], at: usize) -> u32
 // Byte 0, which must be 1.
 pub fn version(file: &[u8]) -> Field
     requires { ⌜ 20 ≤ length (now file) ⌝ }
-    ensures { λ r. ⌜ r ≡ held Answer.Version (eqb (byteAt (now (file .entry)) 0) 1) (byteAt (now (file .entry)) 0) ⌝ }
+    ensures { λ r. ⌜ r ≡ held Answer.Version (byteAt (now (file .entry)) 0) 1 ⌝ }
 {
     let v = byte(file, 0);
     if v != 1 {
@@ -76,7 +77,7 @@ pub fn version(file: &[u8]) -> Field
 // Bytes 1 to 4, which must be the number of bytes that follow them.
 pub fn stated_length(file: &[u8]) -> Field
     requires { ⌜ 20 ≤ length (now file) ⌝ }
-    ensures { λ r. ⌜ r ≡ held Answer.StatedLength (eqb (wordAt (now (file .entry)) 1) (length (now (file .entry)) - 5)) (wordAt (now (file .entry)) 1) ⌝ }
+    ensures { λ r. ⌜ r ≡ held Answer.StatedLength (wordAt (now (file .entry)) 1) (length (now (file .entry)) - 5) ⌝ }
 {
     let stated = word(file, 1);
     if stated as usize != file.len() - 5 {
@@ -85,26 +86,12 @@ pub fn stated_length(file: &[u8]) -> Field
     Field::Value(stated)
 }
 
-// Byte 12, which must be 0 or 1.
-pub fn mode(file: &[u8]) -> Field
+// Byte 12, which must be the number of a mode.
+pub fn mode(file: &[u8]) -> NumberedMode
     requires { ⌜ 20 ≤ length (now file) ⌝ }
-    ensures { λ r. ⌜ r ≡ held Answer.Mode (leb (byteAt (now (file .entry)) 12) 1) (byteAt (now (file .entry)) 12) ⌝ }
+    ensures { λ r. ⌜ r ≡ modeNumbered (byteAt (now (file .entry)) 12) ⌝ }
 {
-    let m = byte(file, 12);
-    if m > 1 {
-        return Field::Refused(Answer::Mode);
-    }
-    Field::Value(m)
-}
-
-// The mode of that number: 0 parabolic, 1 Gaussian.
-pub fn fit(m: u32) -> PeakFitMode
-    ensures { λ r. ⌜ r ≡ fitOf (eqb m 0) ⌝ }
-{
-    if m == 0 {
-        return PeakFitMode::Parabolic;
-    }
-    PeakFitMode::Gaussian
+    PeakFitMode::of_number(byte(file, 12))
 }
 
 // The f32 of a bit pattern. A pattern of a NaN may not be cast: there a NaN is made.

@@ -1,14 +1,16 @@
 // The frame file: which bytes are taken, and what they mean. The printed list, line by line.
 use fields::Field;
 use params::Answer;
+use params::NumberedMode;
 use params::Outcome;
+use params::PeakFitMode;
 use params::RadonDetectorParams;
 ghost use mathlib.Core.Path.{_≡_};
 ghost use mathlib.Core.List.{[]};
-ghost use Prim.Native.Nat.{_/_, _≤_, min};
-ghost use lib.ListN.{length, getD};
-ghost use Rattle.frame.specs.FrameFile.{byteAt, headerOf, readOf, Pixels};
-ghost use Rattle.frame.specs.Printed.{printed};
+ghost use Prim.Native.Nat.{_*_, _/_, _≤_, _<_, min};
+ghost use lib.ListN.{length, getD, take, drop};
+ghost use Rattle.frame.specs.FrameFile.{headerOf, headerRead, readOf, Pixels};
+ghost use Rattle.frame.specs.Printed.{cornerLine, printed};
 ghost use Rattle.frame.specs.Lines.{Shows};
 
 mod fields;
@@ -40,6 +42,14 @@ pub fn read(file: &[u8], limit: usize) -> Reading
     if file.len() < HEADER {
         return Reading::Refused(Answer::FileTooShort);
     }
+    read_header(file)
+}
+
+// The fields that can be refused, in their order, each taken apart before the next; then the header.
+fn read_header(file: &[u8]) -> Reading
+    requires { ⌜ 20 ≤ length (now file) ⌝ }
+    ensures { λ r. ⌜ r ≡ headerRead (now (file .entry)) ⌝ }
+{
     let version = fields::version(file);
     let Field::Value(_) = version else {
         return Reading::Refused(version.refusal());
@@ -49,32 +59,29 @@ pub fn read(file: &[u8], limit: usize) -> Reading
         return Reading::Refused(stated.refusal());
     };
     let mode = fields::mode(file);
-    let Field::Value(m) = mode else {
+    let NumberedMode::Known(fit) = mode else {
         return Reading::Refused(mode.refusal());
     };
-    Reading::Frame(header_of(file, m))
+    Reading::Frame(header_of(file, fit))
 }
 
-// The fields after the stated length; m is the mode's number. No other of them can be refused.
-fn header_of(file: &[u8], m: u32) -> Header
-    requires { ⌜ (20 ≤ length (now file)) × (m ≡ byteAt (now file) 12) ⌝ }
-    ensures { λ r. ⌜ r ≡ headerOf (now (file .entry)) ⌝ }
+// The header with that mode. No other of its fields can be refused.
+fn header_of(file: &[u8], fit: PeakFitMode) -> Header
+    requires { ⌜ 20 ≤ length (now file) ⌝ }
+    ensures { λ r. ⌜ r ≡ headerOf (now (file .entry)) fit ⌝ }
 {
-    let width = fields::half(file, 5) as usize;
-    let height = fields::half(file, 7) as usize;
-    let bits = fields::word(file, 16);
     let params = RadonDetectorParams {
         ray_radius: fields::byte(file, 9),
         image_upsample: fields::byte(file, 10),
         response_blur_radius: fields::byte(file, 11),
-        peak_fit: fields::fit(m),
-        threshold_rel: fields::float(bits),
+        peak_fit: fit,
         nms_radius: fields::byte(file, 13),
         min_cluster_size: fields::half(file, 14),
+        threshold_rel: fields::float(fields::word(file, 16)),
     };
     Header {
-        width,
-        height,
+        width: fields::half(file, 5) as usize,
+        height: fields::half(file, 7) as usize,
         params,
     }
 }
@@ -123,6 +130,15 @@ pub fn lines(o: Outcome, list: &[f32]) -> usize
     corners + 1
 }
 
+// The line of corner k, counted from 0.
+fn corner_at(list: &[f32], k: usize) -> Line
+    requires { ⌜ k < length (now list) / 3 ⌝ }
+    ensures { λ r. ⌜ Shows (cornerLine (take 3 (drop (k * 3) (now (list .entry))))) r ⌝ }
+{
+    let at = k * STRIDE;
+    text::corner(list[at], list[at + 1], list[at + 2])
+}
+
 // Line i of those, counted from 0; past the last it is empty.
 pub fn line_at(o: Outcome, list: &[f32], i: usize) -> Line
     ensures { λ r. ⌜ Shows (getD (printed 3 o (now (list .entry))) i []) r ⌝ }
@@ -140,8 +156,7 @@ pub fn line_at(o: Outcome, list: &[f32], i: usize) -> Line
         return text::first(o.w, o.h, o.count);
     }
     if i <= corners {
-        let at = (i - 1) * STRIDE;
-        return text::corner(list[at], list[at + 1], list[at + 2]);
+        return corner_at(list, i - 1);
     }
     if i > corners + 1 {
         return text::empty();

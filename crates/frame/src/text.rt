@@ -7,9 +7,8 @@ ghost use Prim.Native.Nat.{_+_, _-_, _≤_, _<_};
 ghost use lib.Dec.{ltb, leb};
 ghost use lib.ListN.{length};
 ghost use lib.Ieee.{binary32, toBits};
-ghost use Rattle.frame.specs.Printed.{digitOf, numeral, refusedLine, firstLine, cornerLine, fullLine};
-ghost use Rattle.frame.specs.Lines.{Shows};
-ghost use Rattle.frame.specs.Appended.{blank, appended, Grown};
+ghost use Rattle.frame.specs.Printed.{digitOf, numeral, row, refusedLine, firstLine, cornerLine, fullLine};
+ghost use Rattle.frame.specs.Lines.{Shows, Short, blank, appended, Grown};
 
 // A line with nothing on it.
 pub fn empty() -> Line
@@ -22,7 +21,7 @@ pub fn empty() -> Line
 }
 
 // One byte more.
-pub fn push(line: Line, b: u8) -> Line
+fn push(line: Line, b: u8) -> Line
     requires { ⌜ line .len < 64 ⌝ }
     ensures { λ r. ⌜ r ≡ appended line (b ∷ []) ⌝ }
 {
@@ -57,7 +56,7 @@ fn single(base: usize, least: usize, n: usize) -> bool
 }
 
 // The numeral of n, with at least so many digits.
-pub fn number(line: Line, base: usize, least: usize, n: usize) -> Line
+fn number(line: Line, base: usize, least: usize, n: usize) -> Line
     requires { ⌜ (2 ≤ base) × (base ≤ 16) × (line .len + length (numeral base least n) ≤ 64) ⌝ }
     ensures { λ r. ⌜ r ≡ appended line (numeral base least n) ⌝ }
 {
@@ -82,12 +81,26 @@ fn append(line: Line, s: &[u8]) -> Line
     longer
 }
 
-// A number in decimal, and a byte behind it.
-fn decimal(line: Line, n: usize, end: u8) -> Line
-    requires { ⌜ line .len + 21 ≤ 64 ⌝ }
-    ensures { λ r. ⌜ Grown 21 line (numeral 10 1 n ++ (end ∷ [])) r ⌝ }
+// A numeral, and a byte behind it.
+fn field(line: Line, base: usize, least: usize, n: usize, end: u8) -> Line
+    requires { ⌜ Short base least n × (line .len + 21 ≤ 64) ⌝ }
+    ensures { λ r. ⌜ Grown 21 line (numeral base least n ++ (end ∷ [])) r ⌝ }
 {
-    push(number(line, 10, 1, n), end)
+    push(number(line, base, least, n), end)
+}
+
+const BLANK: u8 = b' ';
+
+const LINE_FEED: u8 = b'\n';
+
+// Three numerals on a line of their own.
+fn three(base: usize, least: usize, a: usize, b: usize, c: usize) -> Line
+    requires { ⌜ Short base least a × Short base least b × Short base least c ⌝ }
+    ensures { λ r. ⌜ Shows (row (numeral base least a ∷ numeral base least b ∷ numeral base least c ∷ [])) r ⌝ }
+{
+    let line = field(empty(), base, least, a, BLANK);
+    let line = field(line, base, least, b, BLANK);
+    field(line, base, least, c, LINE_FEED)
 }
 
 // The bits of a float. A NaN has no bits of its own: here they are 7FC00000.
@@ -100,42 +113,32 @@ fn bits(x: f32) -> u32
     0x7fc0_0000
 }
 
-// The bits of a float in eight digits, and a byte behind them.
-fn word(line: Line, x: f32, end: u8) -> Line
-    requires { ⌜ line .len + 9 ≤ 64 ⌝ }
-    ensures { λ r. ⌜ Grown 9 line (numeral 16 8 (toBits binary32 x) ++ (end ∷ [])) r ⌝ }
-{
-    push(number(line, 16, 8, bits(x) as usize), end)
-}
-
-const BLANK: u8 = b' ';
-
-const LINE_FEED: u8 = b'\n';
-
 // A refusal's only line.
 pub fn refused(n: u32) -> Line
     ensures { λ r. ⌜ Shows (refusedLine n) r ⌝ }
 {
     let line = append(empty(), b"refused ");
-    decimal(line, n as usize, LINE_FEED)
+    field(line, 10, 1, n as usize, LINE_FEED)
 }
 
 // The first line of a list.
 pub fn first(w: usize, h: usize, count: usize) -> Line
     ensures { λ r. ⌜ Shows (firstLine w h count) r ⌝ }
 {
-    let line = decimal(empty(), w, BLANK);
-    let line = decimal(line, h, BLANK);
-    decimal(line, count, LINE_FEED)
+    three(10, 1, w, h, count)
 }
 
 // A corner's line.
 pub fn corner(x: f32, y: f32, strength: f32) -> Line
     ensures { λ r. ⌜ Shows (cornerLine (x ∷ y ∷ strength ∷ [])) r ⌝ }
 {
-    let line = word(empty(), x, BLANK);
-    let line = word(line, y, BLANK);
-    word(line, strength, LINE_FEED)
+    three(
+        16,
+        8,
+        bits(x) as usize,
+        bits(y) as usize,
+        bits(strength) as usize,
+    )
 }
 
 // The last line of a list that is full.

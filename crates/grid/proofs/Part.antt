@@ -36,7 +36,7 @@ module _ {ℓ} {A : Type ℓ} where
 module _ {ℓ} {A : Type ℓ} (w h : ℕ) (g : ℕ → ℕ → A) (xs : List A) where
   pub rows-part : {ys zs : List A} {y i : ℕ} → i ≡ y * w → Rows w h g xs ys y → y < h → zs ≡ filled w (λ x. g x y) (take (i + w - i) (drop i ys))
       → Rows w h g xs (take i ys ++ (zs ++ drop (i + w - i) (drop i ys))) (y + 1)
-  rows-part {ys} {zs} {y} {i} e r b z = record { most = omega arith; fill = fill; long = length-fill _ _ _ fill }
+  rows-part {ys} {zs} {y} {i} e r b z = record { least = omega arith; most = omega arith; fill = fill; long = length-fill _ _ _ fill }
     where
       size : y * w + w - y * w ≡ w
       size = omega arith

@@ -9,7 +9,7 @@ use Rattle.grid.specs.Fill.{filled}
 use Rattle.grid.proofs.Fill.{filled-zero, filled-ext, fill-step, length-filled, filled-nil, getD-filled, getD-beyond}
 use Rattle.grid.specs.Plane.{plane}
 use Rattle.grid.proofs.Plane.{plane-at}
-use Rattle.grid.proofs.Loops.{Row}
+use Rattle.grid.proofs.Loops.{Steps, steps-all, Row}
 use Rattle.grid.specs.Span.{span}
 
 module _ {ℓ} {A : Type ℓ} where
@@ -63,11 +63,8 @@ module _ {ℓ} {A : Type ℓ} where
       simp suc-add (ap (λ (r : List A). f zero ∷ r) (span-filled a n (λ k. f (suc k)) (λ k. g (suc k)) xs (λ k l b. e (suc k) (suc-le-suc l) (omega arith))))
 
   -- ---- the entries from a and below i are done
-  pub record Spanning (a e : ℕ) (g : ℕ → A) (old out : List A) (i : ℕ) : Type ℓ where
-    pub least : a ≤ i
-    pub most : i ≤ e
-    pub fill : out ≡ span a (i - a) g old
-    pub long : length out ≡ length old
+  abbrev pub Spanning : ℕ → ℕ → (ℕ → A) → List A → List A → ℕ → Type ℓ
+  Spanning a e g = Steps a e (λ i. span a (i - a) g)
 
 module _ {ℓ} {A : Type ℓ} (a e : ℕ) (g : ℕ → A) (xs : List A) where
   pub spanning-none : a ≤ e → Spanning a e g xs xs a
@@ -87,9 +84,7 @@ module _ {ℓ} {A : Type ℓ} (a e : ℕ) (g : ℕ → A) (xs : List A) where
       }
 
   pub spanning-all : {ys : List A} {i : ℕ} → Spanning a e g xs ys i → e ≤ i → ys ≡ span a (e - a) g xs
-  spanning-all {ys} {i} r b =
-      let q : i ≡ e = omega arith in
-      rw q at (r .fill)
+  spanning-all r b = steps-all r b
 
   -- an entry before, read on the way
   pub spanning-before : {ys : List A} {i : ℕ} → Spanning a e g xs ys i → (k : ℕ) (d : A) → k < a → getD ys k d ≡ getD xs k d
@@ -99,10 +94,13 @@ module _ {ℓ} {A : Type ℓ} (a e : ℕ) (g : ℕ → A) (xs : List A) where
 pub row-span {ℓ} : {A : Type ℓ} (w h : ℕ) (f : ℕ → ℕ → A) (g : ℕ → A) (xs : List A) {ys zs : List A} {y lo hi a e : ℕ} → Row w h f xs ys y lo → lo ≤ hi → hi ≤ w
     → a ≡ y * w + lo → e ≡ y * w + hi → zs ≡ span a (e - a) g ys → ((x : ℕ) → lo ≤ x → x < hi → g (y * w + x) ≡ f x y) → Row w h f xs zs y hi
 row-span {A = A} w h f g xs {ys} {zs} {y} {lo} {hi} {a} {e} r l m p q z v = record {
-  most = m;
   room = r .room;
-  fill = z ∙ (λ i. span (p i) (size i) g (r .fill i)) ∙ span-filled (y * w + lo) (hi - lo) (plane w f) g xs at ∙ ap (λ (n : ℕ). filled n (plane w f) xs) up;
-  long = ap length z ∙ length-span a (e - a) g ys ∙ r .long;
+  steps = record {
+    least = omega arith;
+    most = m;
+    fill = z ∙ (λ i. span (p i) (size i) g (r .steps .fill i)) ∙ span-filled (y * w + lo) (hi - lo) (plane w f) g xs at ∙ ap (λ (n : ℕ). filled n (plane w f) xs) up;
+    long = ap length z ∙ length-span a (e - a) g ys ∙ r .steps .long;
+  };
 }
   where
     size : e - a ≡ hi - lo

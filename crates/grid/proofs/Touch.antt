@@ -11,16 +11,17 @@ use lib.Dec.{leb}
 use borrow.Author.Tests.{lt-ltb, le-ltb, le-leb, lt-leb}
 use Rattle.grid.specs.Fill.{filled}
 use Rattle.grid.proofs.Fill.{length-filled, length-fill, getD-filled, getD-beyond, filled-ext, filled-filled, fill-step}
-use Rattle.grid.proofs.Loops.{fill-again}
+use Rattle.grid.proofs.Loops.{Steps, fill-again}
 use Rattle.grid.specs.Touch.{changed, touched}
 
 module _ {ℓ} {A : Type ℓ} where
+  -- xs with its entries below i changed, where they are to be
+  unfoldable pub touching : A → ℕ → ℕ → (ℕ → A → A) → ℕ → List A → List A
+  touching d a e g i xs = filled i (changed d a e g xs) xs
+
   -- the invariant of `for i in a..e { out[i] = g(i, out[i]); }`
-  pub record Span (d : A) (a e : ℕ) (g : ℕ → A → A) (old out : List A) (i : ℕ) : Type ℓ where
-    pub least : a ≤ i
-    pub most : i ≤ e
-    pub fill : out ≡ filled i (changed d a e g old) old
-    pub long : length out ≡ length old
+  abbrev pub Span : A → ℕ → ℕ → (ℕ → A → A) → List A → List A → ℕ → Type ℓ
+  Span d a e g = Steps a e (touching d a e g)
 
   -- entries that are filled with themselves
   pub filled-same : (d : A) (n : ℕ) (f : ℕ → A) (xs : List A) → ((j : ℕ) → j < n → f j ≡ getD xs j d) → xs ≡ filled n f xs
@@ -41,10 +42,12 @@ module _ {ℓ} {A : Type ℓ} (d : A) (a e : ℕ) (g : ℕ → A → A) (xs : Li
   past j b = rw (le-ltb j e b, and-false (leb a j))
 
   pub span-none : a ≤ e → Span d a e g xs xs a
+  unfolding touching
   span-none b = record { least = omega arith; most = b; fill = filled-same d a _ xs under; long = refl }
 
   -- the entry as the loop reads it
   pub span-more : {ys : List A} {i : ℕ} {v : A} → Span d a e g xs ys i → i < e → v ≡ g i (getD ys i d) → Span d a e g xs (set ys i v) (i + 1)
+  unfolding touching
   span-more {ys} {i} {v} r b q = record {
     least = omega arith;
     most = omega arith;
@@ -53,7 +56,7 @@ module _ {ℓ} {A : Type ℓ} (d : A) (a e : ℕ) (g : ℕ → A → A) (xs : Li
   }
 
   pub span-all : {ys : List A} {i : ℕ} → Span d a e g xs ys i → e ≤ i → e ≤ length xs → ys ≡ touched d a e g xs
-  unfolding touched
+  unfolding touched touching
   span-all {ys} {i} r m l =
       let q : i ≡ e = omega arith in
       rw q at (r .fill) ∙ filled-same d (length xs) (changed d a e g xs) (filled e (changed d a e g xs) xs) at ∙ filled-filled e (length xs) _ _ xs l

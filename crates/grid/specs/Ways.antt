@@ -4,11 +4,16 @@ use mathlib.Core.Path.{_≡_}
 use Prim.Native.Nat.{ℕ, _+_, _-_, _*_, _≤_, _<_, min}
 use mathlib.Core.List.{List}
 use lib.ListN.{getD}
+use lib.Ieee.{Float, nan}
 use Rattle.grid.specs.Fold.{sumTo}
 
 -- what a buffer w wide has at column x of row y
 abbrev pub pixel : List ℕ → ℕ → ℕ → ℕ → ℕ
 pixel img w x y = getD img (y * w + x) 0
+
+-- the same of a map of floats
+abbrev pub value : List Float → ℕ → ℕ → ℕ → Float
+value s w x y = getD s (y * w + x) nan
 
 -- along a row, down a column, along a diagonal that falls to the right, along one that rises to the right
 pub data Way : Type 0 where

@@ -1,17 +1,16 @@
--- A step of a chain of refusals: its test holds and its answer is given, or it fails and the rest decides. `search chain` walks a whole chain.
--- Assumes nothing.
+-- A step of a chain of refusals: its test holds and its answer is given, or it fails and the rest decides. `search
+-- chain` walks a whole chain. Assumes nothing.
 use mathlib.Core.Path.{_≡_, refl, sym, _∙_}
-use mathlib.Core.Bool.{Bool, true, false, not, _||_, or-true}
+use mathlib.Core.Bool.{Bool, true, false, not, _||_, cond, or-true}
 use Prim.Native.Nat.{_*_}
 use lib.Ieee.{Float, nan, inf, fin, ne, isNan, up, down}
 use borrow.Author.Tests.{lt-ltb, le-ltb, eq-eqb, ne-eqb}
-use Rattle.params.specs.declared.Answer.{Answer}
-use Rattle.params.specs.Refusals.{pick}
+use Rattle.params.specs.declared.answers.Answer.{Answer}
 
-pub stop : (x y : Answer) (t : Bool) → t ≡ true → x ≡ pick t x y
+pub stop : (x y : Answer) (t : Bool) → t ≡ true → x ≡ cond t x y
 stop x y t e = rw e
 
-pub pass : (r x y : Answer) (t : Bool) → t ≡ false → r ≡ y → r ≡ pick t x y
+pub pass : (r x y : Answer) (t : Bool) → t ≡ false → r ≡ y → r ≡ cond t x y
 pass r x y t e h = rw e h
 
 pub or-first : (a b : Bool) → a ≡ true → a || b ≡ true
@@ -41,4 +40,5 @@ self-same (fin false m e) = rw (eq-eqb (m * up e * down e) (m * up e * down e) r
 pub differs-nan : (x : Float) (b : Bool) → ne x x ≡ b → isNan x ≡ b
 differs-nan x b e = sym (self-same x) ∙ e
 
-pub ruleset chain = (stop, pass, or-first, or-second, or-neither, not-yes, not-no, lt-ltb, le-ltb, eq-eqb, ne-eqb, differs-nan)
+pub ruleset chain =
+    (stop, pass, or-first, or-second, or-neither, not-yes, not-no, lt-ltb, le-ltb, eq-eqb, ne-eqb, differs-nan)

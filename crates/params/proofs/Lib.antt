@@ -1,2 +1,3 @@
--- What the proofs of the functions cite.
+-- What the proofs of the functions cite, and what an accepted call has passed.
 pub mod Chain
+pub mod Accepted

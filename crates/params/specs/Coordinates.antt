@@ -3,8 +3,8 @@ use mathlib.Core.Bool.{cond}
 use Prim.Native.Nat.{ℕ}
 use lib.Dec.{eqb}
 use lib.Ieee.{Float, binary32, ofBits, mul}
-use Rattle.params.specs.declared.Working.{Working}
-use Rattle.params.specs.declared.Input.{Input}
+use Rattle.params.specs.declared.coordinates.Working.{Working}
+use Rattle.params.specs.declared.coordinates.Input.{Input}
 use Rattle.params.specs.Settings.{factorOf}
 
 -- 1 at factor 1, and 0.5 at factor 2

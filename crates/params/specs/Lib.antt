@@ -3,4 +3,3 @@ pub mod Settings
 pub mod Coordinates
 pub mod Answers
 pub mod Refusals
-pub mod Accepted

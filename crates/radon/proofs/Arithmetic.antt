@@ -3,15 +3,15 @@
 use mathlib.Core.Path.{_≡_}
 use Prim.Native.Nat.{ℕ, _≤_}
 use lib.Ieee.{Float}
-use Rattle.params.specs.declared.PeakFitMode.{PeakFitMode}
-use Rattle.detect.specs.Saddle.{saddleOf, saddleAt, sumsOf, verdict}
-use Rattle.detect.specs.PeakFit.{fitOf}
-use Rattle.detect.proofs.Rooted.{by-root, trace, spreadSquared, nearestRoot}
-use Rattle.detect.proofs.Offsets.{Central, fit-central}
+use Rattle.params.specs.declared.settings.PeakFitMode.{PeakFitMode}
+use Rattle.saddle.specs.Saddle.{saddleOf, saddleAt, sumsOf, byCurvatures}
+use Rattle.peak_fit.specs.PeakFit.{fitOf}
+use Rattle.saddle.proofs.Rooted.{by-root, trace, spreadSquared, nearestRoot}
+use Rattle.peak_fit.proofs.Offsets.{Central, fit-central}
 
 pub saddle-has-root : (k : ℕ) (f : ℕ → ℕ → ℕ) (x y : ℕ) → 1 ≤ k → k ≤ 7 → ((i j : ℕ) → f i j ≤ 4095)
     → let sums = sumsOf (saddleOf k) k f x y in
-    saddleAt (saddleOf k) k f x y ≡ verdict k (trace (saddleOf k) sums) (nearestRoot (spreadSquared (saddleOf k) sums))
+    saddleAt (saddleOf k) k f x y ≡ byCurvatures k (trace (saddleOf k) sums) (nearestRoot (spreadSquared (saddleOf k) sums))
 saddle-has-root = by-root
 
 pub offset-is-central : (mode : PeakFitMode) (m c p : Float) → Central (fitOf mode m c p)

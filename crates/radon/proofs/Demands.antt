@@ -19,21 +19,23 @@ use Rattle.grid.specs.Ways.{pixel, Inside}
 use Rattle.scalar.specs.Log.{logOf, terms, high, lowest, highest, Near}
 use Rattle.scalar.specs.declared.Log.the-variants.{Value}
 use Rattle.scalar.proofs.Facts.{log-near, log-inside}
-use Rattle.params.specs.declared.RadonDetectorParams.{RadonDetectorParams}
+use Rattle.params.specs.declared.settings.RadonDetectorParams.{RadonDetectorParams}
 use Rattle.params.specs.Settings.{factorOf, rayOf}
 use Rattle.params.specs.Answers.{numberOf, refused}
 use Rattle.response.specs.Map.{roomOf, sideOf}
-use Rattle.response.specs.Quarter.{quarter, near}
-use Rattle.response.specs.Response.{raySpread}
-use Rattle.response.specs.MapFacts.{SameWritten, same-written}
-use Rattle.response.proofs.Places.{work-doubled, work-copied, raw-squared, raw-border, unblurred, map-fits}
+use Rattle.upsample.specs.Kernel.{quarter, near}
+use Rattle.rays.specs.Response.{raySpread}
+use Rattle.response.proofs.MapFacts.{SameWritten, same-written}
+use Rattle.upsample.proofs.RoundedQuarter.{work-doubled, work-copied}
+use Rattle.response.proofs.Places.{raw-squared, raw-border, unblurred, map-fits}
 use Rattle.response.proofs.Beyond.{Stays, stays}
-use Rattle.detect.specs.Above.{entry}
+use Rattle.detect.specs.Maximum.{entry}
 use Rattle.detect.specs.Corners.{stride}
 use Rattle.detect.proofs.HigherSettings.{raised}
 use Rattle.detect.proofs.Places.{OnFrame}
-use Rattle.radon.specs.Finder.{Buffers, answered, outcomeOf, buffersOf}
-use Rattle.radon.proofs.Left.{Accepted, Bytes, mapLeft, imageLeft, listLeft, runs, map-is, working-is, response-is, entry-is, entry-range, same-response, byte-most, is-true}
+use Rattle.radon.specs.Finder.{Buffers, Bytes, answered, outcomeOf, buffersOf}
+use Rattle.radon.proofs.Left.{Accepted, mapLeft, imageLeft, listLeft, runs, map-is, working-is, response-is, entry-is}
+use Rattle.radon.proofs.Left.{entry-range, same-response, byte-most, is-true}
 use Rattle.radon.proofs.Lists.{writtenBy, roomIn, xOf, yOf, strengthOf, ListIs, Filtered, Opens}
 use Rattle.radon.proofs.Lists as lists
 

@@ -7,8 +7,6 @@ use Prim.Native.Nat.{ℕ, _+_, _*_, _/_, _%_, _≤_, _<_}
 use native.Mathlib.Nat.{div-add-mod'}
 use native.Mathlib.Omega.{arith}
 use borrow.Author.Tests.{eq-eqb}
-use mir.Syntax.{w8}
-use mir.Val.{Fits}
 use lib.Dec.{T}
 use lib.ListN.{length, getD, take}
 use lib.Ieee.{Float, nan, le}
@@ -18,24 +16,20 @@ use Rattle.grid.proofs.Plane.{pixel-in, column-in, row-number-in, plane-ext}
 use Rattle.grid.specs.Ways.{pixel}
 use Rattle.grid.specs.Over.{written}
 use Rattle.scalar.specs.Log.{high, lowest, highest}
-use Rattle.params.specs.declared.RadonDetectorParams.{RadonDetectorParams}
+use Rattle.params.specs.declared.settings.RadonDetectorParams.{RadonDetectorParams}
 use Rattle.params.specs.Settings.{factorOf, rayOf}
 use Rattle.params.specs.Answers.{numberOf}
 use Rattle.response.specs.Map.{Buffers as MapBuffers, sideOf, workOf, mapOf, mapped, mappedBy}
-use Rattle.response.specs.Runs.{Runs}
-use Rattle.response.specs.MapFacts.{raised-frame, map-range}
-use Rattle.detect.specs.Window.{value}
+use Rattle.response.proofs.Runs.{Runs}
+use Rattle.response.proofs.MapFacts.{raised-frame, map-range}
+use Rattle.grid.specs.Ways.{value}
 use Rattle.detect.specs.Corners.{numbers, stride}
-use Rattle.radon.specs.Finder.{Buffers, answered, found, buffersOf}
+use Rattle.radon.specs.Finder.{Buffers, Bytes, answered, found, buffersOf}
 use Rattle.radon.proofs.Cases.{runs-by, map-at, work-at}
 
 -- none of the refusals 2 to 9 applies: the answer is 0 or 1
 abbrev pub Accepted : List ℕ → ℕ → ℕ → RadonDetectorParams → Buffers → Type 0
 Accepted img w h p b = numberOf (answered img w h p b) ≡ 0
-
--- each entry is a byte: what the prover knows of every lent `&[u8]`
-abbrev pub Bytes : List ℕ → Type 0
-Bytes img = (i : ℕ) → Fits w8 (getD img i 0)
 
 -- the response and the working image that a call left, by column and row, and its list
 abbrev pub mapLeft : List ℕ → ℕ → ℕ → RadonDetectorParams → Buffers → ℕ → ℕ → Float

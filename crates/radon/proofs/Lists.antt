@@ -19,26 +19,26 @@ use Rattle.grid.specs.Rect.{Place, place}
 use Rattle.grid.specs.Over.{written}
 use Rattle.grid.proofs.Over.{opening, shorter, past}
 use Rattle.grid.proofs.Entries.{all-at, each-entry}
-use Rattle.params.specs.declared.RadonDetectorParams.{RadonDetectorParams}
-use Rattle.params.specs.declared.Answer.the-variants.{Complete, ListFull}
-use Rattle.params.specs.declared.Outcome.{Outcome}
+use Rattle.params.specs.declared.settings.RadonDetectorParams.{RadonDetectorParams}
+use Rattle.params.specs.declared.answers.Answer.the-variants.{Complete, ListFull}
+use Rattle.params.specs.declared.answers.Outcome.{Outcome}
 use Rattle.params.specs.Settings.{factorOf, rayOf}
 use Rattle.params.specs.Answers.{numberOf}
-use Rattle.params.specs.Accepted.{all-accepted}
+use Rattle.params.proofs.Accepted.{all-accepted}
 use Rattle.response.specs.Map.{roomOf, sideOf, mapOf}
-use Rattle.response.specs.MapFacts.{SameWritten, same-written, map-number}
-use Rattle.response.specs.Runs.{Runs}
+use Rattle.response.proofs.MapFacts.{SameWritten, same-written, map-number}
+use Rattle.response.proofs.Runs.{Runs}
 use Rattle.detect.specs.Window.{at}
-use Rattle.detect.specs.Above.{entry}
+use Rattle.detect.specs.Maximum.{entry}
 use Rattle.detect.specs.Corners.{corners, numbers, stride}
 use Rattle.detect.specs.Detected.{fullOr}
 use Rattle.detect.proofs.Scanning.{numbers-long}
 use Rattle.detect.proofs.HigherSettings.{raised, passesHigher, higher-corners}
 use Rattle.detect.proofs.Inside.{corners-same, list-same}
 use Rattle.detect.proofs.Places.{OnFrame, Inner, corners-inner, numbers-on-frame}
-use Rattle.radon.specs.Finder.{Buffers, answered, found, outcomeOf, buffersOf}
+use Rattle.radon.specs.Finder.{Buffers, Bytes, answered, found, outcomeOf, buffersOf}
 use Rattle.radon.proofs.Cases.{found-is, list-is}
-use Rattle.radon.proofs.Left.{Accepted, Bytes, mapLeft, imageLeft, listLeft, runs, left-is, working-is, response-is, byte-most}
+use Rattle.radon.proofs.Left.{Accepted, mapLeft, imageLeft, listLeft, runs, left-is, working-is, response-is, byte-most}
 
 -- ---- what a call leaves, by name
 

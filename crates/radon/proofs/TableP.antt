@@ -13,13 +13,13 @@ use Rattle.grid.specs.Fold.{fold}
 use Rattle.grid.specs.Each.{each, keep}
 use Rattle.grid.specs.Rect.{from, range, line, rect}
 use Rattle.grid.specs.Ways.{pixel, along, down, fall, rise, ray}
-use Rattle.params.specs.declared.PeakFitMode.the-variants.{Parabolic}
-use Rattle.response.specs.Upsample.{upAt}
-use Rattle.response.specs.Response.{raySpread, square, responseAt}
-use Rattle.response.specs.Blur.{valueAt, windowSum, rowMean, columnMean, blurAt}
-use Rattle.response.specs.Inner.{narrow-zero}
-use Rattle.detect.specs.Saddle.{disk}
-use Rattle.detect.specs.PeakFit.{fitOf}
+use Rattle.params.specs.declared.settings.PeakFitMode.the-variants.{Parabolic}
+use Rattle.upsample.specs.Upsample.{upAt}
+use Rattle.rays.specs.Response.{raySpread, square, responseAt}
+use Rattle.blur.specs.Blur.{valueAt, windowSum, meanAt, rowMean, columnMean, blurAt}
+use Rattle.rays.proofs.Inner.{narrow-zero}
+use Rattle.saddle.specs.Saddle.{disk}
+use Rattle.peak_fit.specs.PeakFit.{fitOf}
 
 -- a whole number as an f32, by its pattern; 2 and 3
 abbrev whole : ℕ → ℕ
@@ -91,7 +91,7 @@ abbrev pub P10 : Type 0
 P10 = (f : ℕ → ℕ → ℕ) (x y : ℕ) → responseAt f 2 2 1 x y ≡ f0
 
 pub P : (computed ≡ stated) × P10
-unfolding upAt ray fold frame responseAt square raySpread blurAt columnMean rowMean windowSum
+unfolding upAt ray fold frame responseAt square raySpread blurAt columnMean rowMean meanAt windowSum
     disk keep each rect line range from fitOf
     ofBits toBits ofInt add sub mul div le lt round units odd size span climb
 P = (refl, λ f x y. sym (narrow-zero f 2 2 1 x y (lit≤ tt)))

@@ -12,19 +12,20 @@ use Rattle.grid.specs.Each.{each, keep, any, count}
 use Rattle.grid.specs.Rect.{from, range, line, rect}
 use Rattle.grid.specs.Ways.{ray}
 use Rattle.scalar.specs.Root.{rootOf}
-use Rattle.params.specs.declared.PeakFitMode.the-variants.{Parabolic}
-use Rattle.params.specs.declared.RadonDetectorParams.{RadonDetectorParams}
+use Rattle.params.specs.declared.settings.PeakFitMode.the-variants.{Parabolic}
+use Rattle.params.specs.declared.settings.RadonDetectorParams.{RadonDetectorParams}
 use Rattle.params.specs.Coordinates.{toInput}
 use Rattle.params.specs.Answers.{numberOf}
 use Rattle.params.specs.Refusals.{sizeRefusal, mapRefusal, listRefusal, roomRefusal, refusalOf}
-use Rattle.response.specs.Upsample.{workAt}
-use Rattle.response.specs.Response.{raySpread, square, responseAt}
-use Rattle.response.specs.Blur.{blurAt}
+use Rattle.upsample.specs.Upsample.{workAt}
+use Rattle.rays.specs.Response.{raySpread, square, responseAt}
+use Rattle.blur.specs.Blur.{blurAt}
 use Rattle.response.specs.Map.{rawAt, mapAt, sideOf, mapOf}
 use Rattle.detect.specs.Window.{beaten, positives}
 use Rattle.detect.specs.Saddle.{saddleOf, saddleAt, disk}
 use Rattle.detect.specs.PeakFit.{fitOf}
-use Rattle.detect.specs.Corners.{corners, verdict, floorOf, peak, inputAt, numbers}
+use Rattle.detect.specs.Maximum.{maximum}
+use Rattle.detect.specs.Corners.{corners, verdict, floorOf, inputAt, numbers}
 use Rattle.radon.specs.Finder.{found}
 use Rattle.radon.proofs.TableP.{frame}
 
@@ -89,7 +90,7 @@ stated =
 
 pub Run : computed ≡ stated
 unfolding refusalOf sizeRefusal mapRefusal listRefusal roomRefusal isNan
-    found corners verdict floorOf peak plane fold beaten positives any count keep each rect line range from
+    found corners verdict floorOf maximum plane fold beaten positives any count keep each rect line range from
     mapAt rawAt workAt blurAt responseAt square raySpread ray frame
     saddleAt saddleOf disk rootOf numbers inputAt toInput fitOf
     ofBits toBits ofInt add sub mul div le lt round units odd size span climb

@@ -1,15 +1,10 @@
 // The finder: from an image to its corners in one call, over buffers that the caller lends, with every refusal.
 ghost use mathlib.Core.Path.{_≡_};
-ghost use Prim.Native.Nat.{min};
-ghost use Rattle.radon.specs.Finder.{Buffers, outcomeOf, buffersOf};
+ghost use Rattle.radon.specs.Finder.{lent, outcomeOf, buffersOf};
 use params::Outcome;
 use params::RadonDetectorParams;
-
-fn smaller(a: usize, b: usize) -> usize
-    ensures { λ r. ⌜ r ≡ min a b ⌝ }
-{
-    if a < b { a } else { b }
-}
+use response::radon_response_u8;
+use sizes::lesser;
 
 // Each buffer but the list needs an entry for every working pixel; the list takes three numbers a corner: x, y, strength.
 pub fn radon_corners_u8(
@@ -20,70 +15,28 @@ pub fn radon_corners_u8(
     working: &mut [u8],
     row: &mut [u32],
     col: &mut [u32],
-    pos: &mut [u32],
-    neg: &mut [u32],
+    falling: &mut [u32],
+    rising: &mut [u32],
     response: &mut [f32],
     scratch: &mut [f32],
     list: &mut [f32],
 ) -> Outcome
-    ensures answer { λ r. ⌜ r ≡ outcomeOf (now (img .entry)) w h p (record {
-      map = record {
-        working = now (working .entry);
-        row = now (row .entry);
-        col = now (col .entry);
-        pos = now (pos .entry);
-        neg = now (neg .entry);
-        response = now (response .entry);
-        scratch = now (scratch .entry);
-      };
-      list = now (list .entry);
-    }) ⌝ }
-    ensures buffers { λ _. ⌜ _≡_ {A = Buffers} (record {
-      map = record {
-        working = now (working .exit);
-        row = now (row .exit);
-        col = now (col .exit);
-        pos = now (pos .exit);
-        neg = now (neg .exit);
-        response = now (response .exit);
-        scratch = now (scratch .exit);
-      };
-      list = now (list .exit);
-    })
-        (buffersOf (now (img .entry)) w h p (record {
-          map = record {
-            working = now (working .entry);
-            row = now (row .entry);
-            col = now (col .entry);
-            pos = now (pos .entry);
-            neg = now (neg .entry);
-            response = now (response .entry);
-            scratch = now (scratch .entry);
-          };
-          list = now (list .entry);
-        })) ⌝ }
+    ensures answer { λ r. ⌜ r ≡ outcomeOf (now (img .entry)) w h p
+        (lent (now (working .entry)) (now (row .entry)) (now (col .entry)) (now (falling .entry)) (now (rising .entry))
+        (now (response .entry)) (now (scratch .entry)) (now (list .entry))) ⌝ }
+    ensures buffers { λ _. ⌜ lent (now (working .exit)) (now (row .exit)) (now (col .exit)) (now (falling .exit)) (now (rising .exit))
+        (now (response .exit)) (now (scratch .exit)) (now (list .exit))
+        ≡ buffersOf (now (img .entry)) w h p
+        (lent (now (working .entry)) (now (row .entry)) (now (col .entry)) (now (falling .entry)) (now (rising .entry))
+        (now (response .entry)) (now (scratch .entry)) (now (list .entry))) ⌝ }
 {
-    let tables = smaller(smaller(row.len(), col.len()), smaller(pos.len(), neg.len()));
-    let room = smaller(
-        working.len(),
-        smaller(tables, smaller(response.len(), scratch.len())),
-    );
+    let tables = lesser(lesser(row.len(), col.len()), lesser(falling.len(), rising.len()));
+    let floats = lesser(response.len(), scratch.len());
+    let room = lesser(working.len(), lesser(tables, floats));
     let answer = params::judge(w, h, img.len(), p, room);
     if answer.number() != 0 {
         return Outcome::refusal(answer);
     }
-    let map = response::radon_response_u8(
-        img,
-        w,
-        h,
-        p,
-        working,
-        row,
-        col,
-        pos,
-        neg,
-        response,
-        scratch,
-    );
+    let map = radon_response_u8(img, w, h, p, working, row, col, falling, rising, response, scratch);
     detect::detect_peaks_from_radon(response, working, map.w, map.h, p, list)
 }

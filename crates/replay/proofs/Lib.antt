@@ -1,4 +1,5 @@
--- Laws of what the replay programs read, over plain variables.
+-- Laws of what the replay programs read, compare and count, over plain variables.
 pub mod Places
 pub mod Patterns
 pub mod Counting
+pub mod Comparing

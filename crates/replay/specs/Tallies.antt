@@ -1,8 +1,12 @@
--- How what agrees and what does not is counted. No count goes over 2^32.
-use mathlib.Core.Bool.{cond}
-use Prim.Native.Nat.{ℕ, _+_, min}
-use lib.Dec.{eqb}
-use Rattle.replay.specs.declared.Tally.{Tally}
+-- How what agrees and what does not is counted, along the records of a list. No count goes over 2^32.
+use mathlib.Core.Bool.{Bool, cond, _&&_}
+use mathlib.Core.List.{List}
+use Prim.Native.Nat.{ℕ, _+_, _-_, min}
+use lib.Dec.{eqb, ltb}
+use lib.ListN.{length}
+use Rattle.replay.specs.Vectors.{afterLine}
+use Rattle.replay.specs.declared.walk.Tally.{Tally}
+use Rattle.replay.specs.declared.walk.Walk.{Walk}
 
 abbrev pub most : ℕ
 most = 4294967296
@@ -23,3 +27,15 @@ counted t wrong =
     cond (eqb wrong 0)
     (record { records = sum (t .records) 1; wrong = t .wrong; first = t .first })
     (record { records = sum (t .records) 1; wrong = sum (t .wrong) 1; first = cond (eqb (t .wrong) 0) (t .records) (t .first) })
+
+-- before the first record; no list has more than 65,536
+abbrev pub opened : List ℕ → Walk
+opened s = record { next = afterLine s; left = 65536; tally = none }
+
+-- whether there is another record
+unfoldable pub onward : List ℕ → Walk → Bool
+onward s w = ltb 0 (w .left) && ltb (w .next) (length s)
+
+-- after a record that ends before `next`
+unfoldable pub walked : Walk → ℕ → ℕ → Walk
+walked w next wrong = record { next = next; left = w .left - 1; tally = counted (w .tally) wrong }

@@ -2,7 +2,8 @@
 use mathlib.Core.Path.{_≡_}
 use mathlib.Core.Bool.{cond, _&&_}
 use mathlib.Core.List.{List, [], _∷_}
-use Prim.Native.Nat.{ℕ, suc, _+_, _-_, _*_}
+use Prim.Native.Nat.{ℕ, suc, _+_, _-_, _*_, min}
+use Prim.Native.Char.{code}
 use denote.Ref.{RefT, now, ptr}
 use lib.Dec.{leb, ltb, eqb}
 use lib.Ieee.{Float, nan, binary32, ofBits, toBits}
@@ -37,10 +38,14 @@ pub record Part (s : RefT (List ℕ)) (from to : ℕ) (r : RefT (List ℕ)) : Ty
   pub values : now r ≡ partOf (now s) from to
   pub itself : ptr r ≡ (ptr s .0, partStart (now s) from to + ptr s .1)
 
+-- the place behind a part that stands after its length, a number of four bytes
+unfoldable pub behindOf : List ℕ → ℕ → ℕ
+behindOf s at = min (min (at + 4) (length s) + wordAt s at) (length s)
+
 -- the place after the first line feed, or the end
 unfoldable pub afterLine : List ℕ → ℕ
 afterLine [] = 0
-afterLine (b ∷ s) = cond (eqb b 10) 1 (suc (afterLine s))
+afterLine (b ∷ s) = cond (eqb b (code "\n")) 1 (suc (afterLine s))
 
 -- the float of a pattern, and a NaN of no word
 abbrev pub floatOf : ℕ → Float

@@ -1,13 +1,29 @@
-// What the programs share that replay a list of vectors: where its numbers and files stand, how values are compared, and how what agrees is counted.
-// A list is a line of text, then records of big-endian numbers, as tools/judge/README.md says. No read goes past its end.
+// What the programs share that replay a list of vectors: where its numbers and files stand, how values are compared, how what agrees is counted,
+// and how that is told. A list is a line of text, then records of big-endian numbers, as tools/judge/README.md says. No read goes past its end.
 ghost use mathlib.Core.Path.{_≡_};
 ghost use mathlib.Core.Bool.{cond};
 ghost use Prim.Native.Nat.{_+_, _≤_, min};
-ghost use lib.Dec.{eqb};
+ghost use lib.Dec.{eqb, leb};
 ghost use lib.ListN.{length};
 ghost use lib.Ieee.{binary32, toBits, ofBits};
-ghost use Rattle.replay.specs.Vectors.{zeros, byteAt, wordAt, Part, afterLine, floatOf, floatAt, entryAt};
-ghost use Rattle.replay.specs.Tallies.{sum, differs, none, counted};
+ghost use Rattle.replay.specs.Vectors.{zeros, byteAt, wordAt, Part, afterLine, behindOf, floatOf, floatAt, entryAt};
+ghost use Rattle.replay.specs.Tallies.{sum, differs};
+pub use entries::Compared;
+pub use entries::bytes;
+pub use entries::floats;
+pub use entries::sides;
+pub use entries::then;
+pub use entries::words;
+pub use report::head;
+pub use report::say;
+pub use walk::Walk;
+pub use walk::after;
+pub use walk::more;
+pub use walk::start;
+
+mod entries;
+mod report;
+mod walk;
 
 // What stands for a byte or a word past the end: none has this value.
 const NO_BYTE: u64 = 256;
@@ -75,6 +91,20 @@ pub fn part(s: &[u8], from: usize, to: usize) -> &[u8]
         return &s[n..];
     }
     &s[from..to]
+}
+
+// The place behind a part that stands after its length.
+pub fn behind(s: &[u8], at: usize) -> usize
+    ensures { λ r. ⌜ r ≡ behindOf (now (s .entry)) at ⌝ }
+{
+    skip(s, skip(s, at, 4), word(s, at) as usize)
+}
+
+// That part.
+pub fn sized(s: &[u8], at: usize) -> &[u8]
+    ensures { λ r. ⌜ Part (s .entry) (min (at + 4) (length (now (s .entry)))) (behindOf (now (s .entry)) at) r ⌝ }
+{
+    part(s, skip(s, at, 4), behind(s, at))
 }
 
 // The place after the first line.
@@ -160,44 +190,17 @@ pub fn plus(a: usize, b: usize) -> usize
     a + b
 }
 
-// How many records there were, how many disagree, and the number of the first of those, counted from 0.
-pub struct Tally {
-    pub records: usize,
-    pub wrong: usize,
-    pub first: usize,
+// A number that a list states, and 0 where it is more than may be.
+pub fn capped(n: u64, most: usize) -> usize
+    ensures value { λ r. ⌜ r ≡ cond (leb n most) n 0 ⌝ }
+    ensures within { λ r. ⌜ r ≤ most ⌝ }
+{
+    if n <= most as u64 { n as usize } else { 0 }
 }
 
-pub fn nothing_yet() -> Tally
-    ensures { λ r. ⌜ r ≡ none ⌝ }
+// Whether a frame file asks for Gaussian mode.
+pub fn gaussian(file: &[u8]) -> bool
+    ensures { λ r. ⌜ r ≡ eqb (byteAt (now (file .entry)) 12) 1 ⌝ }
 {
-    Tally {
-        records: 0,
-        wrong: 0,
-        first: 0,
-    }
-}
-
-// One record more, in which that many things disagree.
-pub fn with(t: Tally, wrong: usize) -> Tally
-    ensures { λ r. ⌜ r ≡ counted t wrong ⌝ }
-{
-    if wrong == 0 {
-        return Tally {
-            records: plus(t.records, 1),
-            wrong: t.wrong,
-            first: t.first,
-        };
-    }
-    Tally {
-        records: plus(t.records, 1),
-        wrong: plus(t.wrong, 1),
-        first: earliest(t),
-    }
-}
-
-// The number of the first record that disagrees, where this one does.
-fn earliest(t: Tally) -> usize
-    ensures { λ r. ⌜ r ≡ cond (eqb (t .wrong) 0) (t .records) (t .first) ⌝ }
-{
-    if t.wrong == 0 { t.records } else { t.first }
+    byte(file, 12) == 1
 }

@@ -1,16 +1,17 @@
-// Replays frames through the finder and compares the lists: count, strengths and order to the bit in both modes, places to the bit in parabolic mode.
-// In Gaussian mode the original's logarithm is the platform's: of those places it counts which agree to the bit, which lie within 0.001, and which beyond.
+// Replays frames through the finder and compares the lists: count, strengths and order to the bit in both modes, places to the bit in parabolic
+// mode. In Gaussian mode the original's logarithm is the platform's: of those places it counts which agree to the bit, which lie within 0.001, and
+// which beyond.
 use libc::STDIN_FILENO;
-use libc::STDOUT_FILENO;
 use params::Outcome;
-use replay::Tally;
+use replay::Walk;
 
-// More records than a list has.
-const RECORDS: usize = 65536;
+// No record has more corners than the program's list takes.
+const MOST: usize = 256;
 
 const NEAR: f32 = 0.001;
 
-// What was compared, and the place behind it: how many numbers disagree, and of the Gaussian corners how many have their place to the bit, within the distance, beyond it.
+// What was compared, and the place behind it: how many numbers disagree, and of the Gaussian corners how many have their place to the bit, within
+// the distance, beyond it.
 struct Compared {
     next: usize,
     wrong: usize,
@@ -48,109 +49,58 @@ fn then(a: Compared, b: Compared) -> Compared {
 
 // Every record; then what was found.
 fn replayed(s: &[u8]) {
-    let mut tally = replay::nothing_yet();
-    let mut all = nothing(replay::after_line(s));
-    let mut i: usize = 0;
-    while i < RECORDS {
-        if all.next >= s.len() {
-            report(s, tally, all);
-            return;
-        }
-        let c = record(s, all.next);
-        tally = replay::with(tally, c.wrong);
+    let mut walk = replay::start(s);
+    let mut all = nothing(0);
+    while replay::more(s, walk) {
+        let c = record(s, walk.next);
+        walk = replay::after(walk, c.next, c.wrong);
         all = then(all, c);
-        i += 1;
     }
-    report(s, tally, all);
+    report(s, walk, all);
 }
 
-fn report(s: &[u8], tally: Tally, all: Compared) {
-    head(s, tally);
-    say(b"Gaussian places equal to the bit", all.equal);
-    say(b"Gaussian places within 0.001", all.near);
-    say(b"Gaussian places beyond", all.beyond);
+fn report(s: &[u8], walk: Walk, all: Compared) {
+    replay::head(s, walk);
+    replay::say(b"Gaussian places equal to the bit", all.equal);
+    replay::say(b"Gaussian places within 0.001", all.near);
+    replay::say(b"Gaussian places beyond", all.beyond);
 }
 
-// The list's own line, the number of records, and how many disagree.
-fn head(s: &[u8], tally: Tally) {
-    let end = replay::after_line(s);
-    io::write_all(STDOUT_FILENO, replay::part(s, 0, end));
-    say(b"records", tally.records);
-    say(b"records that disagree", tally.wrong);
-    if tally.wrong > 0 {
-        say(b"number of the first that disagrees, from 0", tally.first);
-    }
-}
-
-// A line with a name and a number.
-fn say(name: &[u8], n: usize) {
-    io::write_all(STDOUT_FILENO, name);
-    io::write_all(STDOUT_FILENO, b": ");
-    io::print_decimal(STDOUT_FILENO, n as u64);
-    io::write_all(STDOUT_FILENO, b"\n");
-}
-
-// A record: the length of a file and the file; then its list.
+// A record: a file, and its list.
 fn record(s: &[u8], at: usize) -> Compared {
-    let file = replay::skip(s, at, 4);
-    let list = replay::skip(s, file, replay::word(s, at) as usize);
-    found(replay::part(s, file, list), s, list)
+    found(replay::sized(s, at), s, replay::behind(s, at))
 }
 
-// The list of a file, over the program's buffers.
+// The list of a file, with the program's room.
 fn found(file: &[u8], s: &[u8], at: usize) -> Compared {
-    let mut working = [0u8; 2304];
-    let mut row = [0u32; 2304];
-    let mut col = [0u32; 2304];
-    let mut pos = [0u32; 2304];
-    let mut neg = [0u32; 2304];
-    let mut response = [0.0f32; 2304];
-    let mut scratch = [0.0f32; 2304];
     let mut list = [0.0f32; 768];
-    let outcome = runner::run(
-        file,
-        &mut working,
-        &mut row,
-        &mut col,
-        &mut pos,
-        &mut neg,
-        &mut response,
-        &mut scratch,
-        &mut list,
-    );
+    let outcome = frame_runner::run_with_room(file, &mut list);
     let first = sides(outcome, s, at);
-    let many = capped(replay::word(s, replay::skip(s, at, 8)));
-    then(first, corners(&list, many, s, first.next, gaussian(file)))
-}
-
-// No record has more corners than the program's list takes.
-fn capped(n: u64) -> usize {
-    if n <= 256 { n as usize } else { 0 }
-}
-
-fn gaussian(file: &[u8]) -> bool {
-    replay::byte(file, 12) == 1
+    let many = replay::capped(replay::word(s, replay::skip(s, at, 8)), MOST);
+    then(
+        first,
+        corners(&list, many, s, first.next, replay::gaussian(file)),
+    )
 }
 
 // The answer 0, the two sides and the count.
 fn sides(outcome: Outcome, s: &[u8], at: usize) -> Compared {
     let answer = outcome.answer;
-    let h = replay::skip(s, at, 4);
-    let count = replay::skip(s, h, 4);
-    let wrong = replay::differ(answer.number() as u64, 0);
-    let wrong = replay::plus(wrong, replay::differ(outcome.w as u64, replay::word(s, at)));
-    let wrong = replay::plus(wrong, replay::differ(outcome.h as u64, replay::word(s, h)));
-    let wrong = replay::plus(
-        wrong,
-        replay::differ(outcome.count as u64, replay::word(s, count)),
+    let c = replay::sides(
+        s,
+        at,
+        answer.number() as u64,
+        outcome.w as u64,
+        outcome.h as u64,
     );
-    Compared {
-        next: replay::skip(s, count, 4),
-        wrong,
-        equal: 0,
-        near: 0,
-        beyond: 0,
-    }
+    let wrong = replay::differ(outcome.count as u64, replay::word(s, c.next));
+    one(
+        replay::skip(s, c.next, 4),
+        replay::plus(c.wrong, wrong),
+        0,
+        0,
+        0,
+    )
 }
 
 // As many corners as the record has, so that the next record is found even where this one disagrees.
@@ -167,7 +117,7 @@ fn corners(list: &[f32], count: usize, s: &[u8], at: usize, gaussian: bool) -> C
 // One corner: x, y and strength.
 fn corner(list: &[f32], i: usize, s: &[u8], at: usize, gaussian: bool) -> Compared {
     let next = replay::skip(s, at, 12);
-    if i >= 256 {
+    if i >= MOST {
         return one(next, 1, 0, 0, 0);
     }
     let y = replay::skip(s, at, 4);

@@ -9,6 +9,9 @@ use scalar::Root;
 // What stands for the answer "outside": a NaN's pattern, which no answer has.
 const OUTSIDE: u64 = 4294967295;
 
+// No list has more records of a kind.
+const MOST: usize = 4096;
+
 // 2^-19 in units of 2^-40, less one for the rounding of L.
 const CLOSE: u64 = 2097151;
 
@@ -63,8 +66,7 @@ fn replayed(s: &[u8]) {
 fn count(s: &[u8], at: usize) -> usize
     ensures { λ r. ⌜ r ≤ 4096 ⌝ }
 {
-    let n = replay::word(s, at);
-    if n <= 4096 { n as usize } else { 0 }
+    replay::capped(replay::word(s, at), MOST)
 }
 
 // Compares as many records of one kind as there are, from a place on.
@@ -78,16 +80,12 @@ fn counted(s: &[u8], kind: Kind, from: usize, many: usize) -> Tally {
         if agrees(s, kind, at) {
             agree = replay::plus(agree, 1);
         } else {
-            first = less(first, i);
+            first = sizes::lesser(first, i);
         }
         at = replay::skip(s, at, size);
         i += 1;
     }
     Tally { agree, first }
-}
-
-fn less(a: usize, b: usize) -> usize {
-    if a <= b { a } else { b }
 }
 
 fn size_of(kind: Kind) -> usize {
@@ -110,7 +108,8 @@ fn agrees(s: &[u8], kind: Kind, at: usize) -> bool {
     }
 }
 
-// Whether the logarithm with this pattern is within 2^-19 of L, which stands in two halves, in units of 2^-40: the top bit is its sign, as of a pattern.
+// Whether the logarithm with this pattern is within 2^-19 of L, which stands in two halves, in units of 2^-40: the top bit is its sign, as of a
+// pattern.
 fn near(bits: u64, expected: u64, high: u64, low: u64) -> bool
     requires { ⌜ low ≤ 4294967296 ⌝ }
 {

@@ -5,19 +5,14 @@ use Prim.Native.Nat.{ℕ, _*_, min}
 use lib.ListN.{length}
 use borrow.Author.Tests.{eq-eqb, ne-eqb}
 use Rattle.grid.specs.Ways.{pixel}
-use Rattle.params.specs.declared.RadonDetectorParams.{RadonDetectorParams}
-use Rattle.params.specs.declared.Answer.{Answer}
-use Rattle.params.specs.declared.Answer.the-variants.{Complete}
+use Rattle.params.specs.declared.settings.RadonDetectorParams.{RadonDetectorParams}
+use Rattle.params.specs.declared.answers.Answer.{Answer}
+use Rattle.params.specs.declared.answers.Answer.the-variants.{Complete}
 use Rattle.params.specs.Settings.{factorOf, rayOf}
 use Rattle.params.specs.Answers.{numberOf}
 use Rattle.params.specs.Refusals.{mapRefusalOf}
 use Rattle.response.specs.declared.Mapped.{Mapped}
-use Rattle.response.specs.Map.{Buffers, roomOf, mappedBy, mapped, mappedOf, buffersOf, answered}
-
--- the shortest buffer, as the code finds it
-pub room-by : (b : Buffers) {one two tables floats rest room : ℕ} → one ≡ min (length (b .row)) (length (b .col)) → two ≡ min (length (b .pos)) (length (b .neg)) → tables ≡ min one two
-    → floats ≡ min (length (b .response)) (length (b .scratch)) → rest ≡ min tables floats → room ≡ min (length (b .working)) rest → room ≡ roomOf b
-room-by b e1 e2 e3 e4 e5 e6 = rw (e6, e5, e4, e3, e2, e1)
+use Rattle.response.specs.Map.{Buffers, roomOf, mappedBy, mapped, mappedOf, mapBuffersOf, answered}
 
 module _ (img : List ℕ) (w h : ℕ) (p : RadonDetectorParams) (b : Buffers) {room : ℕ} (r : room ≡ roomOf b) {a : Answer} (e : a ≡ mapRefusalOf w h (length img) p room) {n : ℕ} (k : n ≡ numberOf a) where
   is-answered : a ≡ answered img w h p b
@@ -26,16 +21,16 @@ module _ (img : List ℕ) (w h : ℕ) (p : RadonDetectorParams) (b : Buffers) {r
   pub number-zero : n ≡ 0 → numberOf (answered img w h p b) ≡ 0
   number-zero z = sym (ap numberOf is-answered) ∙ sym k ∙ z
 
-  pub when-refused : (n ≡ 0 → ⊥) → (_≡_ {A = Mapped} (record { answer = a; w = 0; h = 0 }) (mappedOf img w h p b)) × (b ≡ buffersOf img w h p b)
-  unfolding mappedOf buffersOf
+  pub when-refused : (n ≡ 0 → ⊥) → (_≡_ {A = Mapped} (record { answer = a; w = 0; h = 0 }) (mappedOf img w h p b)) × (b ≡ mapBuffersOf img w h p b)
+  unfolding mappedOf mapBuffersOf
   when-refused z =
       let q = ne-eqb (numberOf a) 0 (λ y. z (k ∙ y)) in
       (rw (← is-answered, q), rw (← is-answered, q))
 
   pub when-accepted : n ≡ 0 → {factor ray blur : ℕ} → factor ≡ factorOf (p .«image_upsample») → ray ≡ rayOf (p .«ray_radius») → blur ≡ p .«response_blur_radius»
       → {after : Buffers} → after ≡ mappedBy factor ray blur (pixel img w) w h b
-      → (_≡_ {A = Mapped} (record { answer = Complete; w = factor * w; h = factor * h }) (mappedOf img w h p b)) × (after ≡ buffersOf img w h p b)
-  unfolding mappedOf buffersOf
+      → (_≡_ {A = Mapped} (record { answer = Complete; w = factor * w; h = factor * h }) (mappedOf img w h p b)) × (after ≡ mapBuffersOf img w h p b)
+  unfolding mappedOf mapBuffersOf
   when-accepted z f y l u =
       let q = eq-eqb (numberOf (answered img w h p b)) 0 (number-zero z) in
       (rw q (λ i. record { answer = Complete; w = f i * w; h = f i * h }), rw q (u ∙ (λ i. mappedBy (f i) (y i) (l i) (pixel img w) w h b)))

@@ -1,8 +1,7 @@
--- Steps of the proofs: the turns of loops, the laws behind them, and the passes one after the other; what the map is at one place, and what it leaves alone.
-pub mod Upsampling
-pub mod Running
-pub mod Rows
+-- What the passes ask and leave, and the facts on the map.
+pub mod Runs
 pub mod Composed
 pub mod Cases
+pub mod MapFacts
 pub mod Places
 pub mod Beyond

@@ -1,8 +1,8 @@
--- What the map's definitions have at one place, in the words of the demands: the working pixel is a quarter-sum or a copy, the unblurred value
--- is the squared spread of four rays or zero, and every value is an f32. Assumes nothing.
+-- What the map's definitions have at one place, in the words of the demands: the unblurred value is the squared spread of four rays or zero,
+-- and every value is an f32. Assumes nothing.
 use mathlib.Core.Path.{_≡_, sym}
 use mathlib.Core.Bool.{false}
-use Prim.Native.Nat.{ℕ, zero, suc, _*_, _/_, _≤_, _<_}
+use Prim.Native.Nat.{ℕ, _*_, _≤_, _<_}
 use lib.Dec.{T}
 use lib.IntN.{pos}
 use lib.Ieee.{Float, binary32, fits, ofBits, ofInt}
@@ -10,25 +10,14 @@ use lib.Ieee.Exact.{HasValue}
 use lib.Ieee.Fits.{mul-fits, cond-fits}
 use Rattle.float.specs.Values.{f0}
 use Rattle.grid.specs.Ways.{Inside}
-use Rattle.response.specs.Upsample.{workAt}
-use Rattle.response.specs.Quarter.{quarter, near, quarter-sum, work-most}
-use Rattle.response.specs.Response.{square, raySpread, within, responseAt}
-use Rattle.response.specs.Inner.{within-of, response-out, spread-ext}
-use Rattle.response.specs.Exact.{exact}
-use Rattle.response.specs.Blur.{columnMean, blurAt}
+use Rattle.upsample.specs.Upsample.{workAt}
+use Rattle.upsample.proofs.RoundedQuarter.{work-most}
+use Rattle.rays.specs.Response.{square, raySpread, within, responseAt}
+use Rattle.rays.proofs.Inner.{within-of, response-out, spread-ext}
+use Rattle.rays.proofs.SpreadExact.{exact}
+use Rattle.blur.specs.Blur.{blurAt}
+use Rattle.blur.proofs.BlurLaws.{blur-fits}
 use Rattle.response.specs.Map.{rawAt, mapAt}
-
--- ---- the working image
-
-module _ (f : ℕ → ℕ → ℕ) (w h x y : ℕ) {factor : ℕ} where
-  pub work-doubled : factor ≡ 2
-      → workAt factor f w h x y ≡ quarter (f (x / 2) (y / 2)) (f (near w x) (y / 2)) (f (x / 2) (near h y)) (f (near w x) (near h y))
-  unfolding workAt
-  work-doubled e = rw e (quarter-sum f w h x y)
-
-  pub work-copied : factor ≡ 1 → workAt factor f w h x y ≡ f x y
-  unfolding workAt
-  work-copied e = rw e
 
 -- ---- the unblurred response
 
@@ -51,11 +40,6 @@ module _ (factor ray : ℕ) (f : ℕ → ℕ → ℕ) (w h x y : ℕ) where
   unblurred e = rw e
 
 -- ---- every map value is an f32
-
-blur-fits : (g : ℕ → ℕ → Float) (w h r x y : ℕ) → T (fits binary32 (g x y)) → T (fits binary32 (blurAt g w h r x y))
-unfolding blurAt columnMean
-blur-fits g w h zero x y t = t
-blur-fits g w h (suc r) x y t = mul-fits binary32 _ _
 
 zero-fits : T (fits binary32 f0)
 unfolding ofBits fits

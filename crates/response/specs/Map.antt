@@ -1,6 +1,5 @@
 -- The map of one call: document 01's working image, tables, response and blur put together, and what the map's own entry promises.
-use mathlib.Core.Path.{_≡_}
-use mathlib.Core.Bool.{Bool, true, false}
+use mathlib.Core.Bool.{Bool, cond}
 use mathlib.Core.List.{List}
 use Prim.Native.Nat.{ℕ, _*_, min}
 use lib.Dec.{eqb}
@@ -8,16 +7,17 @@ use lib.ListN.{length}
 use lib.Ieee.{Float}
 use Rattle.grid.specs.Fill.{filled}
 use Rattle.grid.specs.Plane.{plane}
-use Rattle.grid.specs.Ways.{pixel, along, down, fall, rise, runSum}
-use Rattle.params.specs.declared.RadonDetectorParams.{RadonDetectorParams}
-use Rattle.params.specs.declared.Answer.{Answer}
-use Rattle.params.specs.declared.Answer.the-variants.{Complete}
+use Rattle.grid.specs.Ways.{pixel, along, down, fall, rise}
+use Rattle.params.specs.declared.settings.RadonDetectorParams.{RadonDetectorParams}
+use Rattle.params.specs.declared.answers.Answer.{Answer}
+use Rattle.params.specs.declared.answers.Answer.the-variants.{Complete}
 use Rattle.params.specs.Settings.{factorOf, rayOf}
 use Rattle.params.specs.Answers.{numberOf}
 use Rattle.params.specs.Refusals.{mapRefusalOf}
-use Rattle.response.specs.Upsample.{workAt}
-use Rattle.response.specs.Response.{responseAt}
-use Rattle.response.specs.Blur.{blurAt, scratched}
+use Rattle.upsample.specs.Upsample.{workAt}
+use Rattle.rays.specs.Tables.{tableOf}
+use Rattle.rays.specs.Response.{responseAt}
+use Rattle.blur.specs.Blur.{blurAt, scratched}
 use Rattle.response.specs.declared.Mapped.{Mapped}
 
 -- ---- the map of an image f, w wide and h high, at a factor, a ray radius and a blur radius.
@@ -36,32 +36,44 @@ pub record Buffers : Type 0 where
   pub working : List ℕ
   pub row : List ℕ
   pub col : List ℕ
-  pub pos : List ℕ
-  pub neg : List ℕ
+  pub falling : List ℕ
+  pub rising : List ℕ
   pub response : List Float
   pub scratch : List Float
+
+-- in the order in which they are lent
+abbrev pub mapLent : List ℕ → List ℕ → List ℕ → List ℕ → List ℕ → List Float → List Float → Buffers
+mapLent working row col falling rising response scratch = record {
+  working = working;
+  row = row;
+  col = col;
+  falling = falling;
+  rising = rising;
+  response = response;
+  scratch = scratch;
+}
 
 -- the length of the shortest
 abbrev pub roomOf : Buffers → ℕ
 roomOf b =
     min (length (b .working))
-    (min (min (min (length (b .row)) (length (b .col))) (min (length (b .pos)) (length (b .neg))))
+    (min (min (min (length (b .row)) (length (b .col))) (min (length (b .falling)) (length (b .rising))))
     (min (length (b .response)) (length (b .scratch))))
 
 -- "the first W·H entries of working image, tables and response are written, those of the scratch too if blur radius and W·H are not 0 .. Entries beyond stay."
 unfoldable pub mappedBy : ℕ → ℕ → ℕ → (ℕ → ℕ → ℕ) → ℕ → ℕ → Buffers → Buffers
 mappedBy factor ray blur f w h b =
     let W = factor * w in
-    let n = W * (factor * h) in
+    let H = factor * h in
     let work = workAt factor f w h in
     record {
-      working = filled n (plane W work) (b .working);
-      row = filled n (plane W (runSum along work W)) (b .row);
-      col = filled n (plane W (runSum down work W)) (b .col);
-      pos = filled n (plane W (runSum fall work W)) (b .pos);
-      neg = filled n (plane W (runSum rise work W)) (b .neg);
-      response = filled n (plane W (mapAt factor ray blur f w h)) (b .response);
-      scratch = scratched (rawAt factor ray f w h) W (factor * h) blur (b .scratch);
+      working = filled (W * H) (plane W work) (b .working);
+      row = tableOf along work W H (b .row);
+      col = tableOf down work W H (b .col);
+      falling = tableOf fall work W H (b .falling);
+      rising = tableOf rise work W H (b .rising);
+      response = filled (W * H) (plane W (mapAt factor ray blur f w h)) (b .response);
+      scratch = scratched (rawAt factor ray f w h) W H blur (b .scratch);
     }
 
 -- ---- by the settings
@@ -86,17 +98,13 @@ answered img w h p b = mapRefusalOf w h (length img) p (roomOf b)
 abbrev pub accepts : Answer → Bool
 accepts a = eqb (numberOf a) 0
 
-abbrev pub chosen : {A : Type 0} → Bool → A → A → A
-chosen true a b = a
-chosen false a b = b
-
 -- W and H, or 0 and 0 with a refusal
 unfoldable pub mappedOf : List ℕ → ℕ → ℕ → RadonDetectorParams → Buffers → Mapped
 mappedOf img w h p b =
-    chosen (accepts (answered img w h p b))
+    cond (accepts (answered img w h p b))
     (record { answer = Complete; w = sideOf w p; h = sideOf h p })
     (record { answer = answered img w h p b; w = 0; h = 0 })
 
 -- the buffers at the end: "no buffer changes" with a refusal
-unfoldable pub buffersOf : List ℕ → ℕ → ℕ → RadonDetectorParams → Buffers → Buffers
-buffersOf img w h p b = chosen (accepts (answered img w h p b)) (mapped (pixel img w) w h p b) b
+unfoldable pub mapBuffersOf : List ℕ → ℕ → ℕ → RadonDetectorParams → Buffers → Buffers
+mapBuffersOf img w h p b = cond (accepts (answered img w h p b)) (mapped (pixel img w) w h p b) b

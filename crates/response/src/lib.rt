@@ -1,17 +1,14 @@
-// The Radon response map: working image, four tables of running sums, response, blur.
-mod blur;
-mod cumsums;
-mod rays;
-mod upsample;
-
+// The Radon response map: working image, four tables of running sums, response, blur. Each pass is a crate; this is their one entry.
 ghost use mathlib.Core.Path.{_≡_};
-ghost use Prim.Native.Nat.{_*_, _≤_, min};
-ghost use lib.ListN.{length};
-ghost use Rattle.grid.specs.Ways.{pixel};
-ghost use Rattle.response.specs.Map.{Buffers, mappedBy, mappedOf, buffersOf};
-ghost use Rattle.response.specs.Runs.{Runs};
+ghost use Prim.Native.Nat.{min};
+ghost use Rattle.response.specs.Map.{mapLent, mappedOf, mapBuffersOf};
+use blur::box_blur_inplace;
 use params::Answer;
 use params::RadonDetectorParams;
+use params::judge_map_call;
+use rays::ray_response;
+use sizes::lesser;
+use upsample::upsample;
 
 // What the map's entry reports: its answer and the working image's sides.
 pub struct Mapped {
@@ -20,62 +17,12 @@ pub struct Mapped {
     pub h: usize,
 }
 
-fn smaller(a: usize, b: usize) -> usize
-    ensures { λ r. ⌜ r ≡ min a b ⌝ }
+// The least of seven lengths: that of the working image, of the four tables, of response and scratch.
+fn shortest(i: usize, row: usize, col: usize, fall: usize, rise: usize, resp: usize, s: usize) -> usize
+    ensures { λ r. ⌜ r ≡ min i (min (min (min row col) (min fall rise)) (min resp s)) ⌝ }
 {
-    if a < b { a } else { b }
-}
-
-// The passes one after the other, for a call that was not refused.
-fn run(
-    img: &[u8],
-    w: usize,
-    h: usize,
-    factor: u32,
-    ray: usize,
-    radius: usize,
-    working: &mut [u8],
-    row: &mut [u32],
-    col: &mut [u32],
-    pos: &mut [u32],
-    neg: &mut [u32],
-    response: &mut [f32],
-    scratch: &mut [f32],
-)
-    requires { ⌜ Runs factor ray radius w h (length (now img)) (record {
-      working = now working;
-      row = now row;
-      col = now col;
-      pos = now pos;
-      neg = now neg;
-      response = now response;
-      scratch = now scratch;
-    }) ⌝ }
-    ensures { λ _. ⌜ _≡_ {A = Buffers} (record {
-      working = now (working .exit);
-      row = now (row .exit);
-      col = now (col .exit);
-      pos = now (pos .exit);
-      neg = now (neg .exit);
-      response = now (response .exit);
-      scratch = now (scratch .exit);
-    })
-        (mappedBy factor ray radius (pixel (now (img .entry)) w) w h (record {
-          working = now (working .entry);
-          row = now (row .entry);
-          col = now (col .entry);
-          pos = now (pos .entry);
-          neg = now (neg .entry);
-          response = now (response .entry);
-          scratch = now (scratch .entry);
-        })) ⌝ }
-{
-    upsample::upsample(img, w, h, factor, working);
-    let ww = (factor as usize) * w;
-    let wh = (factor as usize) * h;
-    cumsums::build_cumsums(working, ww, wh, row, col, pos, neg);
-    rays::compute_response(row, col, pos, neg, ww, wh, ray, response);
-    blur::box_blur_inplace(response, scratch, ww, wh, radius);
+    let tables = lesser(lesser(row, col), lesser(fall, rise));
+    lesser(i, lesser(tables, lesser(resp, s)))
 }
 
 // The dense response of an image, over buffers that the caller lends: each needs an entry for every working pixel.
@@ -87,69 +34,45 @@ pub fn radon_response_u8(
     working: &mut [u8],
     row: &mut [u32],
     col: &mut [u32],
-    pos: &mut [u32],
-    neg: &mut [u32],
+    falling: &mut [u32],
+    rising: &mut [u32],
     response: &mut [f32],
     scratch: &mut [f32],
 ) -> Mapped
-    ensures answer { λ r. ⌜ r ≡ mappedOf (now (img .entry)) w h p (record {
-      working = now (working .entry);
-      row = now (row .entry);
-      col = now (col .entry);
-      pos = now (pos .entry);
-      neg = now (neg .entry);
-      response = now (response .entry);
-      scratch = now (scratch .entry);
-    }) ⌝ }
-    ensures buffers { λ _. ⌜ _≡_ {A = Buffers} (record {
-      working = now (working .exit);
-      row = now (row .exit);
-      col = now (col .exit);
-      pos = now (pos .exit);
-      neg = now (neg .exit);
-      response = now (response .exit);
-      scratch = now (scratch .exit);
-    })
-        (buffersOf (now (img .entry)) w h p (record {
-          working = now (working .entry);
-          row = now (row .entry);
-          col = now (col .entry);
-          pos = now (pos .entry);
-          neg = now (neg .entry);
-          response = now (response .entry);
-          scratch = now (scratch .entry);
-        })) ⌝ }
+    ensures answer { λ r. ⌜ r ≡ mappedOf (now (img .entry)) w h p
+        (mapLent (now (working .entry)) (now (row .entry)) (now (col .entry)) (now (falling .entry)) (now (rising .entry))
+        (now (response .entry)) (now (scratch .entry))) ⌝ }
+    ensures buffers { λ _. ⌜
+        mapLent (now (working .exit)) (now (row .exit)) (now (col .exit)) (now (falling .exit)) (now (rising .exit))
+        (now (response .exit)) (now (scratch .exit))
+        ≡ mapBuffersOf (now (img .entry)) w h p
+        (mapLent (now (working .entry)) (now (row .entry)) (now (col .entry)) (now (falling .entry)) (now (rising .entry))
+        (now (response .entry)) (now (scratch .entry))) ⌝ }
 {
-    let tables = smaller(smaller(row.len(), col.len()), smaller(pos.len(), neg.len()));
-    let room = smaller(
+    let room = shortest(
         working.len(),
-        smaller(tables, smaller(response.len(), scratch.len())),
+        row.len(),
+        col.len(),
+        falling.len(),
+        rising.len(),
+        response.len(),
+        scratch.len(),
     );
-    let answer = params::judge_for_map(w, h, img.len(), p, room);
+    let answer = judge_map_call(w, h, img.len(), p, room);
     if answer.number() != 0 {
         return Mapped { answer, w: 0, h: 0 };
     }
     let factor = p.image_upsample_clamped();
     let ray = p.ray_radius_clamped() as usize;
     let radius = p.response_blur_radius as usize;
-    run(
-        img,
-        w,
-        h,
-        factor,
-        ray,
-        radius,
-        working,
-        row,
-        col,
-        pos,
-        neg,
-        response,
-        scratch,
-    );
+    let ww = (factor as usize) * w;
+    let wh = (factor as usize) * h;
+    upsample(img, w, h, factor, working);
+    ray_response(working, ww, wh, ray, row, col, falling, rising, response);
+    box_blur_inplace(response, scratch, ww, wh, radius);
     Mapped {
         answer: Answer::Complete,
-        w: (factor as usize) * w,
-        h: (factor as usize) * h,
+        w: ww,
+        h: wh,
     }
 }

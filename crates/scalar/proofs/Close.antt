@@ -1,21 +1,28 @@
--- The error law: the f32 that `logOf` gives is within 2 ^ -19 of L, for any number of terms and any upper end that leave room (`near`), and at most 32 in size
--- (`at-most-32`). Assumes nothing.
+-- The error law: the f32 that `logOf` gives is within 2 ^ -19 of L, for any number of terms and any upper
+-- end that leave room (`near`), and at most 32 in size (`at-most-32`). Assumes nothing.
 use mathlib.Core.Path.{_≡_, refl, sym, ap, _∙_, subst}
 use mathlib.Core.Bool.{Bool, true, false, not, cond, _&&_}
 use Prim.Native.Nat.{ℕ, _+_, _-_, _*_, _/_, _%_, _^_, _≤_, _<_}
-use native.Mathlib.Nat.{le-trans, le-of-eq, le-of-lt, mul-le-mul-left, mul-le-mul-right, le-of-mul-le-mul-right, mul-comm, mul-assoc, mul-right-comm, mul-left-comm, mul-add, add-mul, mul-one}
+use native.Mathlib.Nat.{le-trans, le-of-eq, le-of-lt, mul-le-mul-left, mul-le-mul-right, le-of-mul-le-mul-right, mul-comm}
+use native.Mathlib.Nat.{mul-assoc, mul-right-comm, mul-left-comm, mul-add, add-mul, mul-one}
 use native.Mathlib.Omega.{arith}
-use lib.IntN.{ℤ}
 use lib.Dec.{T, leb, lit<, lit≤, leb→le, nleb→lt}
 use lib.Ieee.{Float, nan, inf, fin, up, down, binary32, fits, le, toBits, neg}
 use lib.Ieee.Exact.{HasValue}
-use Rattle.scalar.specs.Log.{unit, sumTop, sumBottom, cutSum, cutThird, unitsOf, plus, minus, whole, doublings, lessOne, moreOne, Close, Within, Near, floatOf, difference, pick, logOf, lowest, highest, mostBits, terms, high}
-use Rattle.scalar.specs.Steps.{Room, roomy, aThird}
+use Rattle.scalar.specs.Log.{unit, sumTop, sumBottom, cutSum, cutThird, unitsOf, plus, minus, whole, doublings, lessOne}
+use Rattle.scalar.specs.Log.{moreOne, distance, Close, Within, Near, floatOf, difference, logOf, lowest, highest, mostBits}
+use Rattle.scalar.specs.Log.{terms, high}
+use Rattle.scalar.specs.Steps.{roomy, aThird}
 use Rattle.scalar.specs.declared.Log.the-variants.{Value, Outside}
 use Rattle.scalar.proofs.Squares.{cut-low, cut-high}
 use Rattle.scalar.proofs.Range.{in-range}
 use Rattle.scalar.proofs.Rounding.{Nearby, nearby}
 use Rattle.scalar.proofs.Series.{bottom-positive, sum-low, sum-high, add-low, add-high, ratio-le, sum-small, third-is}
+
+-- What the error law asks of the number of terms and of the upper end: few units are lost by cuts, and the sum has room.
+pub record Room (N H : ℕ) : Type 0 where
+  pub lost : H + 6 + 2 * N ≤ 128
+  pub small : (H + 6) * cutThird N + (aThird + N * 9942054) < roomy
 
 -- ---- k times a number that is cut
 
@@ -25,7 +32,8 @@ times-low k K n d h = le-trans (le-of-eq (mul-assoc k K d)) (le-trans (mul-le-mu
 times-high : (k K n d : ℕ) → unit * n ≤ (K + 1) * d → unit * (k * n) ≤ (k * K + k) * d
 times-high k K n d h =
     le-trans (le-of-eq (mul-left-comm unit k n))
-    (le-trans (mul-le-mul-left k h) (le-of-eq (sym (mul-assoc k (K + 1) d) ∙ ap (λ (x : ℕ). x * d) (mul-add k K 1 ∙ ap (λ (x : ℕ). k * K + x) (mul-one k)))))
+    (le-trans (mul-le-mul-left k h)
+    (le-of-eq (sym (mul-assoc k (K + 1) d) ∙ ap (λ (x : ℕ). x * d) (mul-add k K 1 ∙ ap (λ (x : ℕ). k * K + x) (mul-one k)))))
 
 -- ---- the sums in units and the exact fractions, with N terms at the pattern b
 
@@ -46,17 +54,22 @@ module _ (N b : ℕ) where
 
   plus-is : plus N b ≡ doublings b * sumTop N 1 3 * sumBottom N (moreOne b) + sumTop N (lessOne b) (moreOne b) * sumBottom N 3
   unfolding plus
-  plus-is = ap (λ (x : ℕ). x + sumTop N (lessOne b) (moreOne b) * sumBottom N 3) (sym (mul-assoc (doublings b) (sumTop N 1 3) (sumBottom N (moreOne b))))
+  plus-is =
+      ap (λ (x : ℕ). x + sumTop N (lessOne b) (moreOne b) * sumBottom N 3)
+      (sym (mul-assoc (doublings b) (sumTop N 1 3) (sumBottom N (moreOne b))))
 
   minus-is : unit * (6 * sumTop N 1 3) * sumBottom N (moreOne b) ≡ unit * minus N b
   unfolding minus
-  minus-is = mul-assoc unit (6 * sumTop N 1 3) (sumBottom N (moreOne b)) ∙ ap (λ (x : ℕ). unit * x) (mul-assoc 6 (sumTop N 1 3) (sumBottom N (moreOne b)))
+  minus-is =
+      mul-assoc unit (6 * sumTop N 1 3) (sumBottom N (moreOne b))
+      ∙ ap (λ (x : ℕ). unit * x) (mul-assoc 6 (sumTop N 1 3) (sumBottom N (moreOne b)))
 
   plus-low : unitsOf N b * whole N b ≤ unit * plus N b
   unfolding unitsOf whole
   plus-low =
       le-trans
-      (add-low (doublings b * cutThird N) (sumBottom N 3) (doublings b * sumTop N 1 3) (cutSum (lessOne b * unit / moreOne b) N) (sumBottom N (moreOne b)) (sumTop N (lessOne b) (moreOne b))
+      (add-low (doublings b * cutThird N) (sumBottom N 3) (doublings b * sumTop N 1 3) (cutSum (lessOne b * unit / moreOne b) N)
+      (sumBottom N (moreOne b)) (sumTop N (lessOne b) (moreOne b))
       (times-low (doublings b) (cutThird N) (sumTop N 1 3) (sumBottom N 3) third-low)
       (sum-low (lessOne b) (moreOne b) more-positive (ratio-le b) N))
       (le-of-eq (ap (λ (x : ℕ). unit * x) (sym plus-is)))
@@ -66,10 +79,13 @@ module _ (N b : ℕ) where
   plus-high =
       le-trans (le-of-eq (ap (λ (x : ℕ). unit * x) plus-is))
       (le-trans
-      (add-high (doublings b * cutThird N + doublings b) (sumBottom N 3) (doublings b * sumTop N 1 3) (cutSum (lessOne b * unit / moreOne b) N + 2 * N) (sumBottom N (moreOne b)) (sumTop N (lessOne b) (moreOne b))
+      (add-high (doublings b * cutThird N + doublings b) (sumBottom N 3) (doublings b * sumTop N 1 3)
+      (cutSum (lessOne b * unit / moreOne b) N + 2 * N) (sumBottom N (moreOne b)) (sumTop N (lessOne b) (moreOne b))
       (times-high (doublings b) (cutThird N) (sumTop N 1 3) (sumBottom N 3) third-high)
       (sum-high (lessOne b) (moreOne b) more-positive (ratio-le b) N))
-      (le-of-eq (ap (λ (x : ℕ). x * (sumBottom N 3 * sumBottom N (moreOne b))) (group (doublings b * cutThird N) (doublings b) (cutSum (lessOne b * unit / moreOne b) N) (2 * N)))))
+      (le-of-eq
+      (ap (λ (x : ℕ). x * (sumBottom N 3 * sumBottom N (moreOne b)))
+      (group (doublings b * cutThird N) (doublings b) (cutSum (lessOne b * unit / moreOne b) N) (2 * N)))))
     where
       group : (a l s n : ℕ) → a + l + (s + n) ≡ a + s + (l + n)
       group a l s n = omega arith
@@ -92,32 +108,64 @@ module _ (N b : ℕ) where
 swap : (y w n c : ℕ) → y * w * n * c ≡ y * c * n * w
 swap y w n c = mul-right-comm (y * w) n c ∙ ap (λ (x : ℕ). x * n) (mul-right-comm y w c) ∙ mul-right-comm (y * c) w n
 
-module _ (v c x y d : ℕ) (c-positive : 0 < c) (up-to : v * d * 2 ^ 19 + y * c * 2 ^ 20 ≤ x * c * 2 ^ 20 + d * c) (from : x * c * 2 ^ 20 ≤ v * d * 2 ^ 19 + y * c * 2 ^ 20 + d * c) where
-  close-of : (m : ℕ) (e : ℤ) → m * up e * c ≡ v * down e → Close m e x y d
-  close-of m e h =
-      let U = m * up e in
-      let W = down e in
-      let same : U * d * 524288 * c ≡ v * d * 524288 * W =
-      mul-right-comm (U * d) 524288 c ∙ ap (λ (s : ℕ). s * 524288) (mul-right-comm U d c ∙ ap (λ (s : ℕ). s * d) h ∙ mul-right-comm v W d) ∙ mul-right-comm (v * d) W 524288 in
-      let a : (v * d * 524288 + y * c * 1048576) * W ≤ (x * c * 1048576 + d * c) * W = mul-le-mul-right W up-to in
-      let b : x * c * 1048576 * W ≤ (v * d * 524288 + y * c * 1048576 + d * c) * W = mul-le-mul-right W from in
-      record {
-        not-above = le-of-mul-le-mul-right {k = c}
-            (omega (arith, a, same, swap y W 1048576 c, swap x W 1048576 c, mul-right-comm d W c, add-mul (U * d * 524288) (y * W * 1048576) c, add-mul (x * W * 1048576) (d * W) c, add-mul (v * d * 524288) (y * c * 1048576) W, add-mul (x * c * 1048576) (d * c) W)) c-positive;
-        not-below = le-of-mul-le-mul-right {k = c}
-            (omega (arith, b, same, swap y W 1048576 c, swap x W 1048576 c, mul-right-comm d W c, add-mul (U * d * 524288 + y * W * 1048576) (d * W) c, add-mul (U * d * 524288) (y * W * 1048576) c, add-mul (v * d * 524288 + y * c * 1048576) (d * c) W, add-mul (v * d * 524288) (y * c * 1048576) W)) c-positive;
-      }
+-- a distance from what is not above and not below
+both-sides : (v y x d : ℕ) → v * 524288 + y * 1048576 ≤ x * 1048576 + d → x * 1048576 ≤ v * 524288 + y * 1048576 + d
+    → distance (v + 2 * y) (2 * x) * 2 ^ 19 ≤ d
+both-sides v y x d above below = omega arith
+
+-- and back: the distance says no less
+pub two-sides : (v y x d : ℕ) → distance (v + 2 * y) (2 * x) * 2 ^ 19 ≤ d
+    → (v * 524288 + y * 1048576 ≤ x * 1048576 + d) × (x * 1048576 ≤ v * 524288 + y * 1048576 + d)
+two-sides v y x d near = (omega arith, omega arith)
+
+module _ (v c x y d : ℕ) (c-positive : 0 < c) (up-to : v * d * 2 ^ 19 + y * c * 2 ^ 20 ≤ x * c * 2 ^ 20 + d * c)
+    (from : x * c * 2 ^ 20 ≤ v * d * 2 ^ 19 + y * c * 2 ^ 20 + d * c) where
+  -- U / W is the size of the float
+  module _ (U W : ℕ) (h : U * c ≡ v * W) where
+    -- what both sides regroup
+    same : (U * d * 524288 * c ≡ v * d * 524288 * W) × (y * W * 1048576 * c ≡ y * c * 1048576 * W)
+        × (x * W * 1048576 * c ≡ x * c * 1048576 * W) × (d * W * c ≡ d * c * W)
+        × ((U * d * 524288 + y * W * 1048576) * c ≡ U * d * 524288 * c + y * W * 1048576 * c)
+        × ((v * d * 524288 + y * c * 1048576) * W ≡ v * d * 524288 * W + y * c * 1048576 * W)
+    same = (
+      mul-right-comm (U * d) 524288 c
+          ∙ ap (λ (s : ℕ). s * 524288) (mul-right-comm U d c ∙ ap (λ (s : ℕ). s * d) h ∙ mul-right-comm v W d)
+          ∙ mul-right-comm (v * d) W 524288,
+      swap y W 1048576 c,
+      swap x W 1048576 c,
+      mul-right-comm d W c,
+      add-mul (U * d * 524288) (y * W * 1048576) c,
+      add-mul (v * d * 524288) (y * c * 1048576) W,
+    )
+
+    not-above : U * d * 524288 + y * W * 1048576 ≤ x * W * 1048576 + d * W
+    not-above =
+        let a : (v * d * 524288 + y * c * 1048576) * W ≤ (x * c * 1048576 + d * c) * W = mul-le-mul-right W up-to in
+        le-of-mul-le-mul-right {k = c}
+        (omega (arith, a, same, add-mul (x * W * 1048576) (d * W) c, add-mul (x * c * 1048576) (d * c) W)) c-positive
+
+    not-below : x * W * 1048576 ≤ U * d * 524288 + y * W * 1048576 + d * W
+    not-below =
+        let sum = U * d * 524288 + y * W * 1048576 in
+        let b : x * c * 1048576 * W ≤ (v * d * 524288 + y * c * 1048576 + d * c) * W = mul-le-mul-right W from in
+        le-of-mul-le-mul-right {k = c}
+        (omega (arith, b, same, add-mul sum (d * W) c, add-mul (v * d * 524288 + y * c * 1048576) (d * c) W)) c-positive
+
+    close-of : Close U W x y d
+    close-of = both-sides (U * d) (y * W) (x * W) (d * W) not-above not-below
 
   within : (r : Float) → HasValue r false v c → Within r x y d × Within (neg r) y x d
   unfolding neg
   within nan h = (h, h)
   within (inf s) h = (h, h)
-  within (fin false m e) h = (close-of m e (h .1), close-of m e (h .1))
+  within (fin false m e) h = (close-of (m * up e) (down e) (h .1), close-of (m * up e) (down e) (h .1))
   within (fin true m e) h = absurd (subst (λ (s : Bool). T (not s)) (sym (h .0)) tt)
 
 -- ---- a and c are x / d and y / d in units, at most g and h too low; v / P is a - c, to within 128
 
-module _ (a c x y d g h P v : ℕ) (a-low : a * d ≤ unit * x) (a-high : unit * x ≤ (a + g) * d) (c-low : c * d ≤ unit * y) (c-high : unit * y ≤ (c + h) * d) (g-small : g ≤ 128) (h-small : h ≤ 128) (order : c ≤ a) (v-most : v ≤ (a - c + 128) * P) (v-least : (a - c) * P ≤ v + 128 * P) where
+module _ (a c x y d g h P v : ℕ) (a-low : a * d ≤ unit * x) (a-high : unit * x ≤ (a + g) * d) (c-low : c * d ≤ unit * y)
+    (c-high : unit * y ≤ (c + h) * d) (g-small : g ≤ 128) (h-small : h ≤ 128) (order : c ≤ a) (v-most : v ≤ (a - c + 128) * P)
+    (v-least : (a - c) * P ≤ v + 128 * P) where
   apart : (a - c) * (d * P) + c * (d * P) ≡ a * (d * P)
   apart = sym (add-mul (a - c) c (d * P)) ∙ ap (λ (s : ℕ). s * (d * P)) (back a c order)
     where
@@ -127,13 +175,19 @@ module _ (a c x y d g h P v : ℕ) (a-low : a * d ≤ unit * x) (a-high : unit *
   swapped : (s : ℕ) → s * P * d ≡ s * (d * P)
   swapped s = mul-assoc s P d ∙ ap (λ (t : ℕ). s * t) (mul-comm P d)
 
+  -- what both sides regroup
+  regrouped : ((a - c) * (d * P) + c * (d * P) ≡ a * (d * P)) × (unit * x * P ≡ unit * (x * P)) × (unit * y * P ≡ unit * (y * P))
+      × (x * P * 134217728 ≡ x * (P * 134217728)) × (y * P * 134217728 ≡ y * (P * 134217728)) × (d * P * 134217728 ≡ d * (P * 134217728))
+  regrouped =
+      (apart, mul-assoc unit x P, mul-assoc unit y P, mul-assoc x P 134217728, mul-assoc y P 134217728, mul-assoc d P 134217728)
+
   up-to : v * d * 2 ^ 19 + y * (P * 134217728) * 2 ^ 20 ≤ x * (P * 134217728) * 2 ^ 20 + d * (P * 134217728)
   up-to =
       let V1 : v * d ≤ (a - c + 128) * P * d = mul-le-mul-right d v-most in
       let X1 : a * d * P ≤ unit * x * P = mul-le-mul-right P a-low in
       let Y1 : unit * y * P ≤ (c + h) * d * P = mul-le-mul-right P c-high in
       let H1 : h * (d * P) ≤ 128 * (d * P) = mul-le-mul-right (d * P) h-small in
-      omega (arith, swapped (a - c + 128), add-mul (a - c) 128 (d * P), apart, mul-assoc a d P, mul-assoc unit x P, mul-assoc unit y P, mul-assoc (c + h) d P, add-mul c h (d * P), mul-assoc x P 134217728, mul-assoc y P 134217728, mul-assoc d P 134217728)
+      omega (arith, swapped (a - c + 128), add-mul (a - c) 128 (d * P), mul-assoc a d P, mul-assoc (c + h) d P, add-mul c h (d * P), regrouped)
 
   from : x * (P * 134217728) * 2 ^ 20 ≤ v * d * 2 ^ 19 + y * (P * 134217728) * 2 ^ 20 + d * (P * 134217728)
   from =
@@ -141,10 +195,11 @@ module _ (a c x y d g h P v : ℕ) (a-low : a * d ≤ unit * x) (a-high : unit *
       let X1 : unit * x * P ≤ (a + g) * d * P = mul-le-mul-right P a-high in
       let Y1 : c * d * P ≤ unit * y * P = mul-le-mul-right P c-low in
       let G1 : g * (d * P) ≤ 128 * (d * P) = mul-le-mul-right (d * P) g-small in
-      omega (arith, swapped (a - c), add-mul v (128 * P) d, swapped 128, apart, mul-assoc c d P, mul-assoc unit x P, mul-assoc unit y P, mul-assoc (a + g) d P, add-mul a g (d * P), mul-assoc x P 134217728, mul-assoc y P 134217728, mul-assoc d P 134217728)
+      omega (arith, swapped (a - c), add-mul v (128 * P) d, swapped 128, mul-assoc c d P, mul-assoc (a + g) d P, add-mul a g (d * P), regrouped)
 
 -- the float of a - c units, and its negative
-module _ (a c x y d g h : ℕ) (a-low : a * d ≤ unit * x) (a-high : unit * x ≤ (a + g) * d) (c-low : c * d ≤ unit * y) (c-high : unit * y ≤ (c + h) * d) (g-small : g ≤ 128) (h-small : h ≤ 128) (order : c ≤ a) (small : a < roomy) where
+module _ (a c x y d g h : ℕ) (a-low : a * d ≤ unit * x) (a-high : unit * x ≤ (a + g) * d) (c-low : c * d ≤ unit * y)
+    (c-high : unit * y ≤ (c + h) * d) (g-small : g ≤ 128) (h-small : h ≤ 128) (order : c ≤ a) (small : a < roomy) where
   both-signs : Within (floatOf (a - c)) x y d × Within (neg (floatOf (a - c))) y x d
   both-signs =
       let f = nearby (a - c) (under a c small) in
@@ -179,11 +234,15 @@ module _ (N H b : ℕ) (room : Room N H) (top : b ≤ mostBits H) where
       few : doublings b + 2 * N ≤ 128
       few = omega (arith, room .lost, doublings-le)
 
-      go : (t : Bool) → (T t → 6 * cutThird N ≤ unitsOf N b) → (T (not t) → unitsOf N b < 6 * cutThird N) → Within (cond t (floatOf (unitsOf N b - 6 * cutThird N)) (neg (floatOf (6 * cutThird N - unitsOf N b)))) (plus N b) (minus N b) (whole N b)
+      go : (t : Bool) → (T t → 6 * cutThird N ≤ unitsOf N b) → (T (not t) → unitsOf N b < 6 * cutThird N)
+          → Within (cond t (floatOf (unitsOf N b - 6 * cutThird N)) (neg (floatOf (6 * cutThird N - unitsOf N b)))) (plus N b)
+          (minus N b) (whole N b)
       go true f g =
-          both-signs (unitsOf N b) (6 * cutThird N) (plus N b) (minus N b) (whole N b) (doublings b + 2 * N) 6 (plus-low N b) (plus-high N b) (minus-low N b) (minus-high N b) few (lit≤ tt) (f tt) units-small .0
+          both-signs (unitsOf N b) (6 * cutThird N) (plus N b) (minus N b) (whole N b) (doublings b + 2 * N) 6 (plus-low N b)
+          (plus-high N b) (minus-low N b) (minus-high N b) few (lit≤ tt) (f tt) units-small .0
       go false f g =
-          both-signs (6 * cutThird N) (unitsOf N b) (minus N b) (plus N b) (whole N b) 6 (doublings b + 2 * N) (minus-low N b) (minus-high N b) (plus-low N b) (plus-high N b) (lit≤ tt) few (le-of-lt (g tt)) six-small .1
+          both-signs (6 * cutThird N) (unitsOf N b) (minus N b) (plus N b) (whole N b) 6 (doublings b + 2 * N) (minus-low N b)
+          (minus-high N b) (plus-low N b) (plus-high N b) (lit≤ tt) few (le-of-lt (g tt)) six-small .1
 
 -- ---- the size of the float
 
@@ -209,7 +268,10 @@ float-at-most d h = let f = nearby d (under d h) in go (floatOf d) (f .0) (f .1)
     go (fin s m e) v k =
         let t : m * up e ≤ 32 * down e =
         le-of-mul-le-mul-right {k = 2 ^ 176}
-        (le-trans (le-of-eq (k .value .1)) (le-trans (mul-le-mul-right (down e) (le-trans (k .most) (mul-le-mul-right (2 ^ 149) (more d h)))) (le-of-eq (mul-right-comm 32 (2 ^ 176) (down e))))) (lit< tt) in
+        (le-trans (le-of-eq (k .value .1))
+        (le-trans (mul-le-mul-right (down e) (le-trans (k .most) (mul-le-mul-right (2 ^ 149) (more d h))))
+        (le-of-eq (mul-right-comm 32 (2 ^ 176) (down e)))))
+        (lit< tt) in
         (t, t)
 
 difference-at-most : (a c : ℕ) → a < roomy → c < roomy → AtMost 32 (difference a c)
@@ -229,7 +291,7 @@ both-true : (a b : Bool) → (a && b) ≡ true → (a ≡ true) × (b ≡ true)
 both-true true b e = (refl, e)
 both-true false b e = absurd (subst T (sym e) tt)
 
-picked : (t : Bool) (v r : Float) → pick t (Value v) Outside ≡ Value r → (t ≡ true) × (v ≡ r)
+picked : (t : Bool) (v r : Float) → cond t (Value v) Outside ≡ Value r → (t ≡ true) × (v ≡ r)
 picked true v r e = (refl, cc)
 picked false v r e = absurd (let z : _≡_ {A = ℕ} 0 1 = cc in omega arith)
 
@@ -245,7 +307,10 @@ module _ (N H : ℕ) (room : Room N H) (x r : Float) (f : T (fits binary32 x)) (
   near = subst (λ (v : Float). Near N x v) (found .1) (close N H (toBits binary32 x) room (found .0))
 
   pub at-most-32 : AtMost 32 r
-  at-most-32 = subst (AtMost 32) (found .1) (difference-at-most (unitsOf N (toBits binary32 x)) (6 * cutThird N) (units-small N H (toBits binary32 x) room (found .0)) (six-small N H (toBits binary32 x) room (found .0)))
+  at-most-32 =
+      subst (AtMost 32) (found .1)
+      (difference-at-most (unitsOf N (toBits binary32 x)) (6 * cutThird N) (units-small N H (toBits binary32 x) room (found .0))
+      (six-small N H (toBits binary32 x) room (found .0)))
 
 -- the number of terms and the upper end of the source leave room
 pub room-here : Room terms high

@@ -2,7 +2,8 @@
 use mathlib.Core.Path.{_≡_, refl, sym, ap, _∙_, subst}
 use mathlib.Core.Bool.{Bool, true, false, cond}
 use Prim.Native.Nat.{ℕ, zero, suc, _+_, _-_, _*_, _^_, _≤_, _<_, zero-le}
-use native.Mathlib.Nat.{le-antisymm, le-trans, le-of-eq, le-of-lt, lt-of-lt-of-le, lt-of-le-of-lt, lt-of-not-le, not-le-of-lt, lt-irrefl, mul-le-mul, add-le-add, pow-succ', le-refl}
+use native.Mathlib.Nat.{le-antisymm, le-trans, le-of-eq, le-of-lt, lt-of-lt-of-le, lt-of-le-of-lt, lt-of-not-le, not-le-of-lt}
+use native.Mathlib.Nat.{lt-irrefl, mul-le-mul, add-le-add, pow-succ', le-refl}
 use native.Mathlib.Omega.{arith}
 use lib.Dec.{lit<, lit≤, T, leb, leb→le, le→leb}
 use lib.Ieee.{Float, nan, inf, fin, binary32, fits, le, toBits, ofBits}
@@ -59,7 +60,11 @@ module _ (b : ℕ) (finite : b < infinite) where
   unfolding rootBits
   the-root-is-nearest = record {
     low = leb→le (middleSquared (greatest p 31 0)) (fourfold b) (greatest-low p 31 0 (le→leb (middleSquared 0) (fourfold b) first));
-    high = lt-of-not-le (λ (h : middleSquared (greatest p 31 0 + 1) ≤ fourfold b). greatest-high p 31 0 (λ (t : T (p 2147483648)). not-le-of-lt last (leb→le (middleSquared 2147483648) (fourfold b) t)) (le→leb (middleSquared (greatest p 31 0 + 1)) (fourfold b) h));
+    high =
+        lt-of-not-le
+        (λ (h : middleSquared (greatest p 31 0 + 1) ≤ fourfold b). greatest-high p 31 0
+        (λ (t : T (p 2147483648)). not-le-of-lt last (leb→le (middleSquared 2147483648) (fourfold b) t))
+        (le→leb (middleSquared (greatest p 31 0 + 1)) (fourfold b) h));
   }
     where
       p : ℕ → Bool
@@ -76,7 +81,9 @@ module _ (b : ℕ) (finite : b < infinite) where
   no-tie p =
       let s = scaling b p finite in
       let r = rounded (s .0) (s .2 .least) (s .2 .most) in
-      subst (λ (c : ℕ). middleSquared c < fourfold b) (root-is b (s .1 * 8388608 + r .0) (small (s .1) (r .0) (s .2 .small) (r .1 .most)) (is-root b (s .0) (s .1) (r .0) (s .2) (r .1)))
+      subst (λ (c : ℕ). middleSquared c < fourfold b)
+      (root-is b (s .1 * 8388608 + r .0) (small (s .1) (r .0) (s .2 .small) (r .1 .most))
+      (is-root b (s .0) (s .1) (r .0) (s .2) (r .1)))
       (above-middle b (s .0) (s .1) (r .0) (s .2) (r .1))
     where
       small : (h q : ℕ) → h < 200 → q < 16777216 → h * 8388608 + q < 2147483648
@@ -85,13 +92,19 @@ module _ (b : ℕ) (finite : b < infinite) where
   -- the root's pattern is finite too, and above 0 where the number is
   pub root-below : rootBits b < infinite
   root-below =
-      lt-of-not-le (λ (g : infinite ≤ rootBits b). not-le-of-lt (lt-of-le-of-lt (fourfold-mono b infinite (le-of-lt finite)) edge) (le-trans (squared-mono infinite (rootBits b) g) (the-root-is-nearest .low)))
+      lt-of-not-le
+      (λ (g : infinite ≤ rootBits b). not-le-of-lt (lt-of-le-of-lt (fourfold-mono b infinite (le-of-lt finite)) edge)
+      (le-trans (squared-mono infinite (rootBits b) g) (the-root-is-nearest .low)))
     where
       edge : fourfold infinite < middleSquared infinite
       edge = unfold middleSquared middle fourfold val in lit< tt
 
   pub root-above : 0 < b → 0 < rootBits b
-  root-above p = lt-of-not-le (λ (g : rootBits b ≤ 0). not-le-of-lt (lt-of-lt-of-le (the-root-is-nearest .high) (squared-mono (rootBits b + 1) 1 (one (rootBits b) g))) (le-trans edge (fourfold-mono 1 b p)))
+  root-above p =
+      lt-of-not-le
+      (λ (g : rootBits b ≤ 0). not-le-of-lt
+      (lt-of-lt-of-le (the-root-is-nearest .high) (squared-mono (rootBits b + 1) 1 (one (rootBits b) g)))
+      (le-trans edge (fourfold-mono 1 b p)))
     where
       one : (c : ℕ) → c ≤ 0 → c + 1 ≤ 1
       one c h = omega arith
@@ -141,7 +154,9 @@ unfolding rootOf
 root-inside nan f p = absurd (subst T (sym p) tt)
 root-inside (inf s) f p = absurd (subst T (sym p) tt)
 root-inside (fin true m e) f p = absurd (subst T (sym p) tt)
-root-inside (fin false m e) f p = let b = toBits binary32 (fin false m e) in (ofBits binary32 (rootBits b), refl, pattern-from-zero (rootBits b) (root-below b (finite-below m e f)))
+root-inside (fin false m e) f p =
+    let b = toBits binary32 (fin false m e) in
+    (ofBits binary32 (rootBits b), refl, pattern-from-zero (rootBits b) (root-below b (finite-below m e f)))
 
 -- and nothing else has a root
 pub root-outside : (x : Float) → fromZero x ≡ false → rootOf x ≡ R.Outside
@@ -154,7 +169,8 @@ root-outside (fin false m e) p = absurd (subst T p tt)
 -- ---- the logarithm
 
 -- an input from 2 ^ -6 to the upper end is never outside
-pub log-inside : (N H : ℕ) (x : Float) → le lowest x ≡ true → le x (highest H) ≡ true → logOf N H x ≡ L.Value (difference (unitsOf N (toBits binary32 x)) (6 * cutThird N))
+pub log-inside : (N H : ℕ) (x : Float) → le lowest x ≡ true → le x (highest H) ≡ true
+    → logOf N H x ≡ L.Value (difference (unitsOf N (toBits binary32 x)) (6 * cutThird N))
 unfolding logOf
 log-inside N H x l h = simp (l, h)
 

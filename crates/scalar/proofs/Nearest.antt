@@ -1,10 +1,13 @@
--- The pattern that a scaled and rounded root makes is the nearest root's (`is-root`), above the middle below it and not on it (`above-middle`), and `rootBits` (`root-is`).
+-- The pattern that a scaled and rounded root makes is the nearest root's (`is-root`), above the middle below it and not on it
+-- (`above-middle`), and `rootBits` (`root-is`).
 -- Assumes nothing.
 use mathlib.Core.Path.{_≡_, sym, ap, _∙_, subst}
 use mathlib.Core.Logic.{inl, inr}
 use mathlib.Core.Bool.{Bool, true, false, cond}
 use Prim.Native.Nat.{ℕ, zero, suc, _+_, _-_, _*_, _^_, _≤_, _<_, zero-le}
-use native.Mathlib.Nat.{le-trans, le-of-eq, le-of-lt, lt-of-lt-of-le, lt-of-le-of-lt, lt-of-not-le, not-le-of-lt, eq-or-lt-of-le, mul-le-mul, mul-le-mul-left, mul-le-mul-right, mul-lt-mul-of-pos-right, mul-assoc, mul-mul-mul-comm, mul-pos, add-mul, pow-succ'}
+use native.Mathlib.Nat.{le-trans, le-of-eq, le-of-lt, lt-of-lt-of-le, lt-of-le-of-lt, lt-of-not-le, not-le-of-lt, eq-or-lt-of-le}
+use native.Mathlib.Nat.{mul-le-mul, mul-le-mul-left, mul-le-mul-right, mul-lt-mul-of-pos-right, mul-assoc, mul-mul-mul-comm}
+use native.Mathlib.Nat.{mul-pos, add-mul, pow-succ'}
 use native.Mathlib.Omega.{arith}
 use lib.Dec.{lit<, lit≤, T, leb, leb→le, le→leb}
 use lib.Pow.{pow-add, pow-pos}
@@ -54,7 +57,9 @@ over h q l u = ap (λ (x : ℕ). x * x) sum ∙ mul-mul-mul-comm (q + q + 1) (2 
 -- the middle under the least significand, where the exponent changes: it is below the pattern's own number
 edge : (h : ℕ) → middleSquared (h * 8388608 + 8388608) < 4 * leastScaled * (2 ^ h * 2 ^ h)
 unfolding middleSquared middle
-edge h = lt-of-lt-of-le (square-lt (val (h * 8388608 + 8388608 - 1) + val (h * 8388608 + 8388608)) (16777216 * 2 ^ h) most) (le-of-eq (mul-mul-mul-comm 16777216 (2 ^ h) 16777216 (2 ^ h)))
+edge h =
+    lt-of-lt-of-le (square-lt (val (h * 8388608 + 8388608 - 1) + val (h * 8388608 + 8388608)) (16777216 * 2 ^ h) most)
+    (le-of-eq (mul-mul-mul-comm 16777216 (2 ^ h) 16777216 (2 ^ h)))
   where
     less : (a : ℕ) → a + 8388608 - 1 < a + 8388608
     less a = omega arith
@@ -64,7 +69,9 @@ edge h = lt-of-lt-of-le (square-lt (val (h * 8388608 + 8388608 - 1) + val (h * 8
 
     most : val (h * 8388608 + 8388608 - 1) + val (h * 8388608 + 8388608) < 16777216 * 2 ^ h
     most =
-        lt-of-lt-of-le (sum (val (h * 8388608 + 8388608 - 1)) (val (h * 8388608 + 8388608)) (val-lt (h * 8388608 + 8388608 - 1) (h * 8388608 + 8388608) (less (h * 8388608))))
+        lt-of-lt-of-le
+        (sum (val (h * 8388608 + 8388608 - 1)) (val (h * 8388608 + 8388608))
+        (val-lt (h * 8388608 + 8388608 - 1) (h * 8388608 + 8388608) (less (h * 8388608))))
         (le-of-eq (ap (λ (x : ℕ). x + x) (val-at h 8388608 (lit≤ tt) (lit≤ tt)) ∙ sym (add-mul 8388608 8388608 (2 ^ h))))
 
 module _ (b n h q : ℕ) (s : Scales b n h) (r : Rounds n q) where
@@ -103,11 +110,13 @@ zero-root = record { low = lit≤ tt; high = lit< tt }
 
 -- ---- `greatest`: the one number that passes where the next does not
 
-pub greatest-is : (p : ℕ → Bool) → ((c d : ℕ) → c ≤ d → T (p d) → T (p c)) → (k at c : ℕ) → T (p c) → (T (p (c + 1)) → ⊥) → at ≤ c → c < at + 2 ^ k → greatest p k at ≡ c
+pub greatest-is : (p : ℕ → Bool) → ((c d : ℕ) → c ≤ d → T (p d) → T (p c)) → (k at c : ℕ) → T (p c) → (T (p (c + 1)) → ⊥)
+    → at ≤ c → c < at + 2 ^ k → greatest p k at ≡ c
 unfolding greatest
 greatest-is p down zero at c y n lo hi = omega arith
 greatest-is p down (suc k) at c y n lo hi =
-    go (p (at + 2 ^ k)) (λ (t : T (p (at + 2 ^ k))). t) (λ (t : T (p (at + 2 ^ k))). t) (λ (a : ℕ) (l : a ≤ c) (h : c < a + 2 ^ k). greatest-is p down k a c y n l h)
+    go (p (at + 2 ^ k)) (λ (t : T (p (at + 2 ^ k))). t) (λ (t : T (p (at + 2 ^ k))). t)
+    (λ (a : ℕ) (l : a ≤ c) (h : c < a + 2 ^ k). greatest-is p down k a c y n l h)
   where
     far : (a P c : ℕ) → c < a + 2 * P → c < a + P + P
     far a P c h = omega arith
@@ -118,7 +127,8 @@ greatest-is p down (suc k) at c y n lo hi =
     one : (c a : ℕ) → suc c ≤ a → c + 1 ≤ a
     one c a h = omega arith
 
-    go : (t : Bool) → (T t → T (p (at + 2 ^ k))) → (T (p (at + 2 ^ k)) → T t) → ((a : ℕ) → a ≤ c → c < a + 2 ^ k → greatest p k a ≡ c) → greatest p k (cond t (at + 2 ^ k) at) ≡ c
+    go : (t : Bool) → (T t → T (p (at + 2 ^ k))) → (T (p (at + 2 ^ k)) → T t)
+        → ((a : ℕ) → a ≤ c → c < a + 2 ^ k → greatest p k a ≡ c) → greatest p k (cond t (at + 2 ^ k) at) ≡ c
     go true f g ih =
         ih (at + 2 ^ k)
         (last (at + 2 ^ k) c (lt-of-not-le (λ (h : suc c ≤ at + 2 ^ k). n (down (c + 1) (at + 2 ^ k) (one c (at + 2 ^ k) h) (f tt)))))
@@ -129,8 +139,11 @@ pub root-is : (b c : ℕ) → c < 2147483648 → IsRoot b c → c ≡ rootBits b
 unfolding rootBits
 root-is b c l r =
     sym (greatest-is (λ (x : ℕ). leb (middleSquared x) (fourfold b))
-    (λ (x y : ℕ) (h : x ≤ y) (t : T (leb (middleSquared y) (fourfold b))). le→leb (middleSquared x) (fourfold b) (le-trans (squared-mono x y h) (leb→le (middleSquared y) (fourfold b) t)))
-    31 0 c (le→leb (middleSquared c) (fourfold b) (r .low)) (λ (t : T (leb (middleSquared (c + 1)) (fourfold b))). not-le-of-lt (r .high) (leb→le (middleSquared (c + 1)) (fourfold b) t)) zero-le (below c l))
+    (λ (x y : ℕ) (h : x ≤ y) (t : T (leb (middleSquared y) (fourfold b))). le→leb (middleSquared x) (fourfold b)
+    (le-trans (squared-mono x y h) (leb→le (middleSquared y) (fourfold b) t)))
+    31 0 c (le→leb (middleSquared c) (fourfold b) (r .low))
+    (λ (t : T (leb (middleSquared (c + 1)) (fourfold b))). not-le-of-lt (r .high) (leb→le (middleSquared (c + 1)) (fourfold b) t))
+    zero-le (below c l))
   where
     below : (c : ℕ) → c < 2147483648 → c < 0 + 2 ^ 31
     below c l = omega arith

@@ -1,10 +1,11 @@
--- Patterns in order: a larger pattern is worth more (`val-lt`, `val-mono`); what exponent and significand are worth (`val-at`); that IEEE 754 gives a pattern
--- the same worth (`val-is`); and which values have a pattern below infinity's (`from-zero`, `not-from-zero`). Assumes nothing.
+-- Patterns in order: a larger pattern is worth more (`val-lt`, `val-mono`); what exponent and significand are worth (`val-at`); that IEEE 754
+-- gives a pattern the same worth (`val-is`); and which values have a pattern below infinity's (`from-zero`, `not-from-zero`). Assumes nothing.
 use mathlib.Core.Path.{_≡_, refl, sym, ap, _∙_, subst}
 use mathlib.Core.Logic.{inl, inr}
 use mathlib.Core.Bool.{Bool, true, false, not, cond}
 use Prim.Native.Nat.{ℕ, zero, suc, _+_, _-_, _*_, _/_, _%_, _^_, _≤_, _<_}
-use native.Mathlib.Nat.{le-of-eq, le-of-lt, lt-of-lt-of-le, lt-of-not-le, not-le-of-lt, eq-or-lt-of-le, add-le-add, mul-le-mul, mul-lt-mul-of-pos-right, mul-assoc, mul-one, pow-succ', mod-eq-of-lt}
+use native.Mathlib.Nat.{le-of-eq, le-of-lt, lt-of-lt-of-le, lt-of-not-le, not-le-of-lt, eq-or-lt-of-le, add-le-add, mul-le-mul}
+use native.Mathlib.Nat.{mul-lt-mul-of-pos-right, mul-assoc, mul-one, pow-succ', mod-eq-of-lt}
 use native.Mathlib.Omega.{arith}
 use lib.IntN.{ℤ}
 use lib.Dec.{T, leb, ltb, eqb, leb→le, nleb→lt, ltb→lt, eqb→eq, not-T}
@@ -19,7 +20,8 @@ use Rattle.scalar.specs.Bits.{fromZero, infinite, ofField, val, middle}
 field-under : (x t : ℕ) → t < 8388608 → ofField x t < 8388608 * 2 ^ x
 field-under zero t h = omega arith
 field-under (suc x) t h =
-    lt-of-lt-of-le (mul-lt-mul-of-pos-right (twice t h) (pow-pos x)) (le-of-eq (mul-assoc 8388608 2 (2 ^ x) ∙ ap (λ (y : ℕ). 8388608 * y) (sym (pow-succ' 2 x))))
+    lt-of-lt-of-le (mul-lt-mul-of-pos-right (twice t h) (pow-pos x))
+    (le-of-eq (mul-assoc 8388608 2 (2 ^ x) ∙ ap (λ (y : ℕ). 8388608 * y) (sym (pow-succ' 2 x))))
   where
     twice : (t : ℕ) → t < 8388608 → 8388608 + t < 8388608 * 2
     twice t h = omega arith
@@ -113,7 +115,9 @@ unfolding ofFields
 of-fields zero t h = subst (λ (y : ℕ). HasValue (odd 24 false t 0 149) false y (2 ^ 149)) (mul-one t) (odd-sign 24 false t 0 149)
 of-fields (suc x) t h =
     subst (λ (v : Float). HasValue v false ((8388608 + t) * 2 ^ x) (2 ^ 149))
-    (sym (cond-no (eqb (suc x) 255) (cond (eqb t 0) (inf false) nan) (odd 24 false (8388608 + t) x 149) (not-T (eqb (suc x) 255) (λ (u : T (eqb (suc x) 255)). differ x h (eqb→eq (suc x) 255 u)))))
+    (sym
+    (cond-no (eqb (suc x) 255) (cond (eqb t 0) (inf false) nan) (odd 24 false (8388608 + t) x 149)
+    (not-T (eqb (suc x) 255) (λ (u : T (eqb (suc x) 255)). differ x h (eqb→eq (suc x) 255 u)))))
     (odd-sign 24 false (8388608 + t) x 149)
   where
     differ : (x : ℕ) → suc x < 255 → suc x ≡ 255 → ⊥
@@ -122,9 +126,14 @@ of-fields (suc x) t h =
 pub val-is : (c : ℕ) → c < infinite → HasValue (ofBits binary32 c) false (val c) (2 ^ 149)
 unfolding ofBits val
 val-is c h =
-    subst (λ (s : Bool). HasValue (ofFields binary32 s (c % 2147483648 / 8388608) (c % 8388608)) false (ofField (c / 8388608) (c % 8388608)) (2 ^ 149))
+    subst
+    (λ (s : Bool). HasValue (ofFields binary32 s (c % 2147483648 / 8388608) (c % 8388608)) false
+    (ofField (c / 8388608) (c % 8388608)) (2 ^ 149))
     (sym (is-false (leb 2147483648 c) (not-T (leb 2147483648 c) (λ (u : T (leb 2147483648 c)). not-le-of-lt (small c h) (leb→le 2147483648 c u)))))
-    (subst (λ (x : ℕ). HasValue (ofFields binary32 false (x / 8388608) (c % 8388608)) false (ofField (c / 8388608) (c % 8388608)) (2 ^ 149)) (sym (mod-eq-of-lt (small c h)))
+    (subst
+    (λ (x : ℕ). HasValue (ofFields binary32 false (x / 8388608) (c % 8388608)) false (ofField (c / 8388608) (c % 8388608))
+    (2 ^ 149))
+    (sym (mod-eq-of-lt (small c h)))
     (of-fields (c / 8388608) (c % 8388608) (field c h)))
   where
     small : (c : ℕ) → c < 2139095040 → c < 2147483648
@@ -157,7 +166,8 @@ fields-minus : (x t : ℕ) → fromZero (ofFields binary32 true x t) ≡ false
 unfolding ofFields
 fields-minus zero t = odd-minus 24 t 0 149
 fields-minus (suc x) t =
-    either (eqb (suc x) 255) (cond (eqb t 0) (inf true) nan) (odd 24 true (8388608 + t) x 149) (either (eqb t 0) (inf true) nan refl refl) (odd-minus 24 (8388608 + t) x 149)
+    either (eqb (suc x) 255) (cond (eqb t 0) (inf true) nan) (odd 24 true (8388608 + t) x 149)
+    (either (eqb t 0) (inf true) nan refl refl) (odd-minus 24 (8388608 + t) x 149)
 
 fields-top : (t : ℕ) → fromZero (ofFields binary32 false 255 t) ≡ false
 unfolding ofFields
@@ -190,13 +200,16 @@ finite-below m e f = lt-of-not-le (λ (h : infinite ≤ toBits binary32 (fin fal
 
 pub worth : (m : ℕ) (e : ℤ) → T (fits binary32 (fin false m e)) → m * up e * 2 ^ 149 ≡ val (toBits binary32 (fin false m e)) * down e
 worth m e f =
-    subst (λ (x : Float). HasValue x false (val (toBits binary32 (fin false m e))) (2 ^ 149)) (ofBits-toBits binary32 (fin false m e) f) (val-is (toBits binary32 (fin false m e)) (finite-below m e f)) .1
+    subst (λ (x : Float). HasValue x false (val (toBits binary32 (fin false m e))) (2 ^ 149))
+    (ofBits-toBits binary32 (fin false m e) f) (val-is (toBits binary32 (fin false m e)) (finite-below m e f)) .1
 
 -- ---- no NaN: a pattern that is at most infinity's beside the sign, and a value that does not differ from itself
 
 pub no-nan-pattern : (c : ℕ) → c % 2147483648 ≤ infinite → T (not (nanBits binary32 c))
 no-nan-pattern c h =
-    subst (λ (b : Bool). T (not b)) (sym (nanBits-above binary32 c)) (not-T (ltb 2139095040 (c % 2147483648)) (λ (t : T (ltb 2139095040 (c % 2147483648))). not-le-of-lt (ltb→lt 2139095040 (c % 2147483648) t) h))
+    subst (λ (b : Bool). T (not b)) (sym (nanBits-above binary32 c))
+    (not-T (ltb 2139095040 (c % 2147483648))
+    (λ (t : T (ltb 2139095040 (c % 2147483648))). not-le-of-lt (ltb→lt 2139095040 (c % 2147483648) t) h))
 
 pub no-nan-value : (x : Float) → ne x x ≡ false → T (not (isNan x))
 unfolding ne isNan

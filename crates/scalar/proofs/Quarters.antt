@@ -1,5 +1,5 @@
--- A pattern's number scaled by a power of 4 (`Scales`): by the subnormal loop's steps, and at once for a normal number. Every number above 0 has such a scaling,
--- and that a rounded root (`scaling`, `rounded`). Assumes nothing.
+-- A pattern's number scaled by a power of 4 (`Scales`): by the subnormal loop's steps, and at once for a normal number.
+-- Every number above 0 has such a scaling, and that a rounded root (`scaling`, `rounded`). Assumes nothing.
 use mathlib.Core.Path.{_≡_, refl, sym, ap, _∙_, subst}
 use Prim.Native.Nat.{ℕ, zero, suc, _+_, _-_, _*_, _/_, _%_, _^_, _≤_, _<_}
 use native.Mathlib.Nat.{le-trans, le-of-eq, lt-of-le-of-lt, lt-of-not-le, mul-le-mul-right, mul-comm, mul-assoc, add-comm}
@@ -62,7 +62,8 @@ val-high b h =
     field : (b : ℕ) → 8388608 ≤ b → b / 8388608 ≡ suc (b / 8388608 - 1)
     field b h = omega arith
 
-pub high-scaled : (b f a h : ℕ) → 8388608 ≤ b → f * 2 ^ a ≡ 2 ^ 149 → h + h ≡ a + (b / 8388608 - 1) → (b % 8388608 + 8388608) * f * 2 ^ (h + h) ≡ val b * 2 ^ 149
+pub high-scaled : (b f a h : ℕ) → 8388608 ≤ b → f * 2 ^ a ≡ 2 ^ 149 → h + h ≡ a + (b / 8388608 - 1)
+    → (b % 8388608 + 8388608) * f * 2 ^ (h + h) ≡ val b * 2 ^ 149
 high-scaled b f a h g e i =
     let m = b % 8388608 + 8388608 in
     let k = b / 8388608 - 1 in
@@ -116,7 +117,8 @@ rounded n l u = let i = whole-root n in go (i .0) (i .1) (decLe (n - i .0 * i .0
     go r w (yes h) = (r, rounds-down n r l u w h)
     go r w (no f) = (r + 1, rounds-up n r l u w (lt-of-not-le f))
 
-low-scaled : (b n h : ℕ) → 0 < b → b < 8388608 → n * 2 ^ (h + h) ≡ b * 2 ^ 149 → n ≤ mostScaled → n % 8388608 ≡ 0 → h ≤ 63 → (m : ℕ) × (k : ℕ) × Scales b m k
+low-scaled : (b n h : ℕ) → 0 < b → b < 8388608 → n * 2 ^ (h + h) ≡ b * 2 ^ 149 → n ≤ mostScaled → n % 8388608 ≡ 0 → h ≤ 63
+    → (m : ℕ) × (k : ℕ) × Scales b m k
 low-scaled b n zero p l e u d s = (n, 0, record { same = low-val b n 0 l e; least = large (decLe leastScaled n); most = u; small = lit< tt })
   where
     large : Dec (leastScaled ≤ n) → leastScaled ≤ n
@@ -124,7 +126,8 @@ low-scaled b n zero p l e u d s = (n, 0, record { same = low-val b n 0 l e; leas
     large (no f) = absurd (too-large b n e p (lt-of-not-le f))
 low-scaled b n (suc h) p l e u d s =
     go (decLe leastScaled n)
-    (λ (t : n < leastScaled). low-scaled b (n * 4) h p l (subst (λ (x : ℕ). n * 4 * 2 ^ (x + x) ≡ b * 2 ^ 149) (pred h) (low-step b n (suc h) e p t)) (four n t d) (rest n d) (less h s))
+    (λ (t : n < leastScaled). low-scaled b (n * 4) h p l
+    (subst (λ (x : ℕ). n * 4 * 2 ^ (x + x) ≡ b * 2 ^ 149) (pred h) (low-step b n (suc h) e p t)) (four n t d) (rest n d) (less h s))
   where
     pred : (h : ℕ) → suc h - 1 ≡ h
     pred h = omega arith

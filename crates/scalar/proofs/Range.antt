@@ -1,9 +1,11 @@
--- A value of binary32 from 2 ^ -6 to 2 ^ H has a pattern from `leastBits` to `mostBits H` (`in-range`), and what the parts of that pattern are (`parts`).
+-- A value of binary32 from 2 ^ -6 to 2 ^ H has a pattern from `leastBits` to `mostBits H`
+-- (`in-range`), and what the parts of that pattern are (`parts`).
 -- Assumes nothing.
 use mathlib.Core.Path.{_≡_, sym, ap, _∙_, subst}
 use mathlib.Core.Bool.{Bool, true, false, not, _||_, _&&_}
 use Prim.Native.Nat.{ℕ, suc, _+_, _-_, _*_, _/_, _%_, _^_, _≤_, _<_}
-use native.Mathlib.Nat.{le-trans, le-of-eq, le-of-lt, lt-of-le-of-lt, lt-of-not-le, not-le-of-lt, lt-irrefl, mul-le-mul-right, mul-lt-mul-of-pos-right, le-of-mul-le-mul-right, mul-right-comm, mul-comm, mul-assoc, one-mul, mul-one}
+use native.Mathlib.Nat.{le-trans, le-of-eq, le-of-lt, lt-of-le-of-lt, lt-of-not-le, not-le-of-lt, lt-irrefl, mul-le-mul-right}
+use native.Mathlib.Nat.{mul-lt-mul-of-pos-right, le-of-mul-le-mul-right, mul-right-comm, mul-comm, mul-assoc, one-mul, mul-one}
 use native.Mathlib.Omega.{arith}
 use lib.IntN.{ℤ, pos, negsuc}
 use lib.Dec.{T, ltb, eqb, lit<, lit≤, ltb→lt, eqb→eq}
@@ -23,7 +25,8 @@ or-cases false b P f g t = g t
 cross : (m : ℕ) (e : ℤ) (n : ℕ) (d : ℤ) → T (le (fin false m e) (fin false n d)) → m * up e * down d ≤ n * up d * down e
 unfolding le lt eq
 cross m e n d t =
-    or-cases (ltb a b) (eqb a b && (true || eqb a 0)) (a ≤ b) (λ (u : T (ltb a b)). le-of-lt (ltb→lt a b u)) (λ (u : T (eqb a b && (true || eqb a 0))). le-of-eq (eqb→eq a b (and-l (eqb a b) true u))) t
+    or-cases (ltb a b) (eqb a b && (true || eqb a 0)) (a ≤ b) (λ (u : T (ltb a b)). le-of-lt (ltb→lt a b u))
+    (λ (u : T (eqb a b && (true || eqb a 0))). le-of-eq (eqb→eq a b (and-l (eqb a b) true u))) t
   where
     a : ℕ
     a = m * up e * down d
@@ -35,7 +38,10 @@ cross m e n d t =
 no-minus : (m : ℕ) (e : ℤ) → le lowest (fin true m e) ≡ true → ⊥
 unfolding le lt eq
 no-minus m e t =
-    go (eqb a b) (eqb a 0) (λ (u : T (eqb a 0)). lt-irrefl 0 (subst (λ (x : ℕ). 0 < x) (eqb→eq a 0 u) (subst (λ (x : ℕ). 0 < x) (sym (one-mul (down e))) (down-pos e)))) (subst T (sym t) tt)
+    go (eqb a b) (eqb a 0)
+    (λ (u : T (eqb a 0)). lt-irrefl 0
+    (subst (λ (x : ℕ). 0 < x) (eqb→eq a 0 u) (subst (λ (x : ℕ). 0 < x) (sym (one-mul (down e))) (down-pos e))))
+    (subst T (sym t) tt)
   where
     a : ℕ
     a = 1 * down e
@@ -59,7 +65,9 @@ module _ (M D A P : ℕ) (D-positive : 0 < D) (same : M * P ≡ A * D) where
   from-below : D ≤ M * 64 → P ≤ A * 64
   from-below h =
       le-of-mul-le-mul-right {k = D}
-      (le-trans (le-of-eq (mul-comm P D)) (le-trans (mul-le-mul-right P h) (le-of-eq (mul-right-comm M 64 P ∙ ap (λ (x : ℕ). x * 64) same ∙ mul-right-comm A D 64)))) D-positive
+      (le-trans (le-of-eq (mul-comm P D))
+      (le-trans (mul-le-mul-right P h) (le-of-eq (mul-right-comm M 64 P ∙ ap (λ (x : ℕ). x * 64) same ∙ mul-right-comm A D 64))))
+      D-positive
 
   from-above : (h : ℕ) → M ≤ h * D → A ≤ h * P
   from-above h l =
@@ -94,7 +102,8 @@ at-most H b h = last (mostBits H) (λ (g : mostBits H + 1 ≤ b). not-le-of-lt e
         subst (λ (x : ℕ). 2 ^ H * 2 ^ 149 < x) (sym (ap val (next H) ∙ val-at (126 + H) 8388609 (lit≤ tt) (lit≤ tt)))
         (lt-of-le-of-lt (le-of-eq end) (mul-lt-mul-of-pos-right (lit< tt) (pow-pos (126 + H))))
 
-pub in-range : (H : ℕ) (x : Float) → T (fits binary32 x) → le lowest x ≡ true → le x (highest H) ≡ true → (leastBits ≤ toBits binary32 x) × (toBits binary32 x ≤ mostBits H)
+pub in-range : (H : ℕ) (x : Float) → T (fits binary32 x) → le lowest x ≡ true → le x (highest H) ≡ true
+    → (leastBits ≤ toBits binary32 x) × (toBits binary32 x ≤ mostBits H)
 in-range H nan f l h = absurd (unfold le lt eq in subst T (sym l) tt)
 in-range H (inf true) f l h = absurd (unfold le lt eq in subst T (sym l) tt)
 in-range H (inf false) f l h = absurd (unfold le lt eq in subst T (sym h) tt)
@@ -105,7 +114,8 @@ in-range H (fin false m e) f l h = (
       (le-trans (le-of-eq (sym (one-mul (down e)))) (cross 1 (negsuc 5) m e (subst T (sym l) tt)))),
   at-most H (toBits binary32 (fin false m e))
       (from-above (m * up e) (down e) (val (toBits binary32 (fin false m e))) (2 ^ 149) (down-pos e) (worth m e f) (2 ^ H)
-      (le-trans (le-of-eq (sym (mul-one (m * up e)))) (le-trans (cross m e 1 (pos H) (subst T (sym h) tt)) (le-of-eq (ap (λ (x : ℕ). x * down e) (one-mul (2 ^ H))))))),
+      (le-trans (le-of-eq (sym (mul-one (m * up e))))
+      (le-trans (cross m e 1 (pos H) (subst T (sym h) tt)) (le-of-eq (ap (λ (x : ℕ). x * down e) (one-mul (2 ^ H))))))),
 )
 
 -- what `doublings` and `lessOne` are: a pattern of the range is worth (1 + lessOne b / 2 ^ 23) * 2 ^ (doublings b - 6)

@@ -1,10 +1,12 @@
--- Half-unit rounding: a fraction rounded to a whole number is within a half of it (`Half`), so the f32 nearest to a whole number below 2 ^ 32 is within 128 of it;
--- and dividing that by 2 ^ 27 is exact (`nearby`). Assumes nothing.
+-- Half-unit rounding: a fraction rounded to a whole number is within a half of it (`Half`), so the f32 nearest to a whole
+-- number below 2 ^ 32 is within 128 of it; and dividing that by 2 ^ 27 is exact (`nearby`). Assumes nothing.
 use mathlib.Core.Path.{_≡_, refl, sym, ap, _∙_, subst}
 use mathlib.Core.Logic.{inl, inr}
 use mathlib.Core.Bool.{Bool, true, false, not}
 use Prim.Native.Nat.{ℕ, zero, suc, _+_, _-_, _*_, _/_, _%_, _^_, _≤_, _<_, compare, Ordering, Ordering·lt, Ordering·eq, Ordering·gt, zero-le}
-use native.Mathlib.Nat.{le-trans, le-of-eq, le-of-lt, lt-of-le-of-lt, lt-of-lt-of-le, eq-or-lt-of-le, mul-pos, mul-le-mul, mul-le-mul-right, eq-of-mul-eq-mul-right, mul-comm, mul-assoc, mul-right-comm, add-mul, one-mul, mul-one, mod-lt, div-add-mod', div-one, suc-mul, lt-of-not-le, not-le-of-lt, sub-le, zero-lt-suc, div-div-eq-div-mul}
+use native.Mathlib.Nat.{le-trans, le-of-eq, le-of-lt, lt-of-le-of-lt, lt-of-lt-of-le, eq-or-lt-of-le, mul-pos, mul-le-mul}
+use native.Mathlib.Nat.{mul-le-mul-right, eq-of-mul-eq-mul-right, mul-comm, mul-assoc, mul-right-comm, add-mul, one-mul, mul-one}
+use native.Mathlib.Nat.{mod-lt, div-add-mod', div-one, suc-mul, lt-of-not-le, not-le-of-lt, sub-le, zero-lt-suc, div-div-eq-div-mul}
 use native.Mathlib.Omega.{arith}
 use lib.IntN.{pos}
 use lib.Dec.{T, eqb, isLe, isEq, leb→le, nleb→lt, eqb→eq, eqb-refl, lit<, lit≤}
@@ -65,14 +67,19 @@ rescale (fin t m e) s w l num den p h v = (
       ∙ mul-right-comm num l (down e)),
 )
 
-exact : (q j : ℕ) (y : Float) → q < 2 ^ 24 → q * 2 ^ j < 2 ^ 277 → HasValue y false (q * 2 ^ j * 134217728) (2 ^ 149) → HasValue (div binary32 y (fin false 1 (pos 27))) false (q * 2 ^ j * 134217728) (2 ^ 176)
+exact : (q j : ℕ) (y : Float) → q < 2 ^ 24 → q * 2 ^ j < 2 ^ 277 → HasValue y false (q * 2 ^ j * 134217728) (2 ^ 149)
+    → HasValue (div binary32 y (fin false 1 (pos 27))) false (q * 2 ^ j * 134217728) (2 ^ 176)
 exact q j nan l b h = absurd h
 exact q j (inf s) l b h = absurd h
 exact q j (fin true m e) l b h = absurd (subst (λ (s : Bool). T (not s)) (sym (h .0)) tt)
 exact q j (fin false m e) l b h =
     unfold div in
-    rescale (round binary32 false (m * up e * 1) (134217728 * down e)) false (m * up e * 1) (134217728 * down e) (q * 2 ^ j * 134217728) (2 ^ 176) (mul-pos (lit< tt) (down-pos e))
-    (sym (ap (λ (x : ℕ). x * 2 ^ 176) (mul-one (m * up e)) ∙ sym (mul-assoc (m * up e) (2 ^ 149) 134217728) ∙ ap (λ (x : ℕ). x * 134217728) (h .1) ∙ mul-assoc (q * 2 ^ j * 134217728) (down e) 134217728 ∙ ap (λ (x : ℕ). q * 2 ^ j * 134217728 * x) (mul-comm (down e) 134217728)))
+    rescale (round binary32 false (m * up e * 1) (134217728 * down e)) false (m * up e * 1) (134217728 * down e)
+    (q * 2 ^ j * 134217728) (2 ^ 176) (mul-pos (lit< tt) (down-pos e))
+    (sym
+    (ap (λ (x : ℕ). x * 2 ^ 176) (mul-one (m * up e)) ∙ sym (mul-assoc (m * up e) (2 ^ 149) 134217728)
+    ∙ ap (λ (x : ℕ). x * 134217728) (h .1) ∙ mul-assoc (q * 2 ^ j * 134217728) (down e) 134217728
+    ∙ ap (λ (x : ℕ). q * 2 ^ j * 134217728 * x) (mul-comm (down e) 134217728)))
     (round-exact binary32 false (m * up e * 1) (134217728 * down e) q j (mul-pos (lit< tt) (down-pos e)) l b
     (ap (λ (x : ℕ). x * 2 ^ 149) (mul-one (m * up e)) ∙ h .1 ∙ mul-assoc (q * 2 ^ j) 134217728 (down e)))
 
@@ -96,7 +103,10 @@ module _ (d : ℕ) (d-positive : 0 < d) (d-small : d < 2 ^ 32) where
 
   drop-ge : 27 ≤ drop 24 n 1
   drop-ge =
-      more (size (n / 1)) (lt-of-not-le (λ (h : size (n / 1) ≤ 51). not-le-of-lt (lt-of-lt-of-le (size-lt (n / 1)) (pow-mono h)) (le-trans (lit≤ {m = 2 ^ 51} {n = 2 ^ 149} tt) n-ge)))
+      more (size (n / 1))
+      (lt-of-not-le
+      (λ (h : size (n / 1) ≤ 51). not-le-of-lt (lt-of-lt-of-le (size-lt (n / 1)) (pow-mono h))
+      (le-trans (lit≤ {m = 2 ^ 51} {n = 2 ^ 149} tt) n-ge)))
     where
       more : (z : ℕ) → 51 < z → 27 ≤ z - 24
       more z h = omega arith
@@ -104,10 +114,13 @@ module _ (d : ℕ) (d-positive : 0 < d) (d-small : d < 2 ^ 32) where
   kept-le : kept 24 n 1 ≤ 2 ^ 24
   kept-le =
       let u = 1 * 2 ^ drop 24 n 1 in
-      le-trans (nearest-le (n / u) (compare (n % u * 2) u)) (subst (λ (x : ℕ). x < 2 ^ 24) (div-div-eq-div-mul n 1 (2 ^ drop 24 n 1)) (kept-lt 24 (n / 1)))
+      le-trans (nearest-le (n / u) (compare (n % u * 2) u))
+      (subst (λ (x : ℕ). x < 2 ^ 24) (div-div-eq-div-mul n 1 (2 ^ drop 24 n 1)) (kept-lt 24 (n / 1)))
 
   half : Half n (2 ^ drop 24 n 1) (kept 24 n 1)
-  half = subst (λ (u : ℕ). Half n u (kept 24 n 1)) (one-mul (2 ^ drop 24 n 1)) (closest-half n (1 * 2 ^ drop 24 n 1) (mul-pos (lit< tt) (pow-pos (drop 24 n 1))))
+  half =
+      subst (λ (u : ℕ). Half n u (kept 24 n 1)) (one-mul (2 ^ drop 24 n 1))
+      (closest-half n (1 * 2 ^ drop 24 n 1) (mul-pos (lit< tt) (pow-pos (drop 24 n 1))))
 
   -- half a unit in the last place is at most 2 ^ 156, which is 128 in units of 2 ^ -149
   most : grid binary32 d 1 ≤ (d + 128) * 2 ^ 149
@@ -138,10 +151,12 @@ module _ (d : ℕ) (d-positive : 0 < d) (d-small : d < 2 ^ 32) where
   value : HasValue quotient false (grid binary32 d 1) (2 ^ 176)
   value = elim (eq-or-lt-of-le kept-le) [
     | inl e ↦ by 8388608 (k - 26) (lit< tt)
-        (ap (λ (x : ℕ). x * 2 ^ k) e ∙ ap (λ (x : ℕ). 16777216 * 2 ^ x) (back 26 k (le-trans (lit≤ tt) drop-ge)) ∙ ap (λ (x : ℕ). 16777216 * x) (pow-add 2 (k - 26) 26) ∙ regroup (2 ^ (k - 26)))
+        (ap (λ (x : ℕ). x * 2 ^ k) e ∙ ap (λ (x : ℕ). 16777216 * 2 ^ x) (back 26 k (le-trans (lit≤ tt) drop-ge))
+        ∙ ap (λ (x : ℕ). 16777216 * x) (pow-add 2 (k - 26) 26) ∙ regroup (2 ^ (k - 26)))
         (le-trans (sub-le k 26) drop-le)
     | inr l ↦ by (kept 24 n 1) (k - 27) l
-        (ap (λ (x : ℕ). kept 24 n 1 * 2 ^ x) (back 27 k drop-ge) ∙ ap (λ (x : ℕ). kept 24 n 1 * x) (pow-add 2 (k - 27) 27) ∙ sym (mul-assoc (kept 24 n 1) (2 ^ (k - 27)) 134217728))
+        (ap (λ (x : ℕ). kept 24 n 1 * 2 ^ x) (back 27 k drop-ge) ∙ ap (λ (x : ℕ). kept 24 n 1 * x) (pow-add 2 (k - 27) 27)
+        ∙ sym (mul-assoc (kept 24 n 1) (2 ^ (k - 27)) 134217728))
         (le-trans (sub-le k 27) drop-le)
   ]
     where
@@ -163,4 +178,8 @@ pub record Nearby (d v : ℕ) (r : Float) : Type 0 where
 pub nearby : (d : ℕ) → d < 2 ^ 32 → (v : ℕ) × Nearby d v (floatOf d)
 unfolding floatOf ofInt
 nearby zero h = (0, record { value = unfold round div in (refl, refl); most = zero-le; least = lit≤ tt })
-nearby (suc d) h = (grid binary32 (suc d) 1, record { value = value (suc d) (zero-lt-suc d) h; most = most (suc d) (zero-lt-suc d) h; least = least (suc d) (zero-lt-suc d) h })
+nearby (suc d) h = (
+  grid binary32 (suc d) 1,
+  record
+      { value = value (suc d) (zero-lt-suc d) h; most = most (suc d) (zero-lt-suc d) h; least = least (suc d) (zero-lt-suc d) h },
+)

@@ -1,13 +1,16 @@
--- The error of the sums in units, as laws of whole numbers. Every power and every term is cut to a whole number, which loses less than one unit, and what earlier
--- cuts lost shrinks: so a power is at most 2 units below the exact one, a term too, and a sum of N terms at most 2 * N (`sum-low`, `sum-high`). Assumes nothing.
+-- The error of the sums in units, as laws of whole numbers. Every power and every term is cut to a whole number,
+-- which loses less than one unit, and what earlier cuts lost shrinks: so a power is at most 2 units below the exact
+-- one, a term too, and a sum of N terms at most 2 * N (`sum-low`, `sum-high`). Assumes nothing.
 use mathlib.Core.Path.{_≡_, refl, sym, ap, _∙_, subst}
 use Prim.Native.Nat.{ℕ, zero, suc, _+_, _*_, _/_, _%_, _^_, _≤_, _<_}
-use native.Mathlib.Nat.{le-trans, le-of-eq, le-of-lt, lt-of-le-of-lt, mul-pos, mul-le-mul, mul-le-mul-right, mul-comm, mul-assoc, mul-right-comm, mul-mul-mul-comm, mul-add, add-mul, one-mul, pow-suc, pow-zero, div-le-self, div-lt-iff-lt-mul}
+use native.Mathlib.Nat.{le-trans, le-of-eq, le-of-lt, lt-of-le-of-lt, mul-pos, mul-le-mul, mul-le-mul-right, mul-comm, mul-assoc}
+use native.Mathlib.Nat.{mul-right-comm, mul-mul-mul-comm, mul-add, add-mul, one-mul, pow-suc, pow-zero, div-le-self}
+use native.Mathlib.Nat.{div-lt-iff-lt-mul}
 use native.Mathlib.Omega.{arith}
 use native.Mathlib.Numerals.{add-one}
 use lib.Dec.{lit<, lit≤}
 use Rattle.scalar.specs.Log.{unit, terms, sumTop, sumBottom, cutPower, cutSum, cutThird, unitsOf, doublings, lessOne, moreOne}
-use Rattle.scalar.specs.Steps.{aThird, thirdUnits}
+use Rattle.scalar.specs.Steps.{aThird}
 use Rattle.scalar.proofs.Squares.{cut-low, cut-high, one-more}
 
 -- ---- the code's numbers are the definition's
@@ -20,6 +23,10 @@ pub sum-step : (z p s j : ℕ) → s ≡ cutSum z j → p ≡ cutPower z j → s
 unfolding cutSum
 sum-step z p s j e f =
     ap (λ (x : ℕ). x + p / (2 * j + 1)) e ∙ ap (λ (x : ℕ). cutSum z j + x / (2 * j + 1)) f ∙ ap (cutSum z) (sym (add-one j))
+
+-- `cutThird terms`, as the source has it: half of S(1/3) in units of 2 ^ -28.
+abbrev pub thirdUnits : ℕ
+thirdUnits = 93032487
 
 pub third-is : cutThird terms ≡ thirdUnits
 unfolding cutThird
@@ -49,7 +56,9 @@ product-fits p w a b = lt-of-le-of-lt (mul-le-mul a b) (lit< tt)
 
 -- (m - 1) / (m + 1) is below a third
 pub ratio-le : (b : ℕ) → lessOne b * unit / moreOne b ≤ aThird
-ratio-le b = last (b % 8388608 * 268435456 / (b % 8388608 + 16777216)) (div-lt-iff-lt-mul (positive (b % 8388608)) .1 (cross (b % 8388608) (digits b)))
+ratio-le b =
+    last (b % 8388608 * 268435456 / (b % 8388608 + 16777216))
+    (div-lt-iff-lt-mul (positive (b % 8388608)) .1 (cross (b % 8388608) (digits b)))
   where
     digits : (b : ℕ) → b % 8388608 < 8388608
     digits b = omega arith
@@ -96,7 +105,8 @@ next-low P w A B R Q h k =
     let b : n * unit * (B * Q) ≤ P * w * (B * Q) = mul-le-mul-right (B * Q) (cut-low (P * w) unit) in
     omega (arith, mul-mul-mul-comm P B w Q, mul-mul-mul-comm unit A unit R, mul-right-comm n unit (B * Q))
 
-next-high : (P w A B R Q : ℕ) → unit * A ≤ (P + 2) * B → unit * R ≤ (w + 2) * Q → 2 * P + 2 * w + 4 ≤ unit → unit * (A * R) ≤ (P * w / unit + 2) * (B * Q)
+next-high : (P w A B R Q : ℕ) → unit * A ≤ (P + 2) * B → unit * R ≤ (w + 2) * Q → 2 * P + 2 * w + 4 ≤ unit
+    → unit * (A * R) ≤ (P * w / unit + 2) * (B * Q)
 next-high P w A B R Q h k s =
     let n = P * w / unit in
     let a : unit * A * (unit * R) ≤ (P + 2) * B * ((w + 2) * Q) = mul-le-mul h k in
@@ -140,7 +150,9 @@ term-high P D A B d h = le-trans h (le-trans (mul-le-mul-right B above) (le-of-e
 
 module _ (S d n T C A : ℕ) where
   spread : (S + T) * (d * C) ≡ S * d * C + T * C * d
-  spread = add-mul S T (d * C) ∙ ap (λ (x : ℕ). x + T * (d * C)) (sym (mul-assoc S d C)) ∙ ap (λ (x : ℕ). S * d * C + x) (ap (λ (x : ℕ). T * x) (mul-comm d C) ∙ sym (mul-assoc T C d))
+  spread =
+      add-mul S T (d * C) ∙ ap (λ (x : ℕ). x + T * (d * C)) (sym (mul-assoc S d C))
+      ∙ ap (λ (x : ℕ). S * d * C + x) (ap (λ (x : ℕ). T * x) (mul-comm d C) ∙ sym (mul-assoc T C d))
 
   pub add-low : S * d ≤ unit * n → T * C ≤ unit * A → (S + T) * (d * C) ≤ unit * (n * C + A * d)
   add-low h k = omega (arith, spread, mul-le-mul-right C h, mul-le-mul-right d k, mul-assoc unit n C, mul-assoc unit A d)
@@ -169,7 +181,8 @@ module _ (p q : ℕ) (q-positive : 0 < q) (at-most-a-third : p * unit / q ≤ aT
   power-low : (j : ℕ) → cutPower z j * q ^ (2 * j + 1) ≤ unit * p ^ (2 * j + 1)
   unfolding cutPower
   power-low zero =
-      le-trans (le-of-eq (ap (λ (x : ℕ). z * x) (pow-one q))) (le-trans (cut-low (p * unit) q) (le-of-eq (mul-comm p unit ∙ ap (λ (x : ℕ). unit * x) (sym (pow-one p)))))
+      le-trans (le-of-eq (ap (λ (x : ℕ). z * x) (pow-one q)))
+      (le-trans (cut-low (p * unit) q) (le-of-eq (mul-comm p unit ∙ ap (λ (x : ℕ). unit * x) (sym (pow-one p)))))
   power-low (suc j) =
       le-trans (le-of-eq (ap (λ (x : ℕ). cutPower z j * w / unit * x) (pow-odd q j)))
       (le-trans (next-low (cutPower z j) w (p ^ (2 * j + 1)) (q ^ (2 * j + 1)) (p * p) (q * q) (power-low j) w-low)
@@ -179,13 +192,16 @@ module _ (p q : ℕ) (q-positive : 0 < q) (at-most-a-third : p * unit / q ≤ aT
   unfolding cutPower
   power-high zero =
       le-trans (le-of-eq (ap (λ (x : ℕ). unit * x) (pow-one p) ∙ mul-comm unit p))
-      (le-trans (le-of-lt (cut-high (p * unit) q q-positive)) (le-trans (mul-le-mul-right q (more z)) (le-of-eq (ap (λ (x : ℕ). (z + 2) * x) (sym (pow-one q))))))
+      (le-trans (le-of-lt (cut-high (p * unit) q q-positive))
+      (le-trans (mul-le-mul-right q (more z)) (le-of-eq (ap (λ (x : ℕ). (z + 2) * x) (sym (pow-one q))))))
     where
       more : (z : ℕ) → z + 1 ≤ z + 2
       more z = omega arith
   power-high (suc j) =
       le-trans (le-of-eq (ap (λ (x : ℕ). unit * x) (pow-odd p j)))
-      (le-trans (next-high (cutPower z j) w (p ^ (2 * j + 1)) (q ^ (2 * j + 1)) (p * p) (q * q) (power-high j) w-high (room (cutPower z j) w (sum-small z at-most-a-third j .0) (square-le z at-most-a-third)))
+      (le-trans
+      (next-high (cutPower z j) w (p ^ (2 * j + 1)) (q ^ (2 * j + 1)) (p * p) (q * q) (power-high j) w-high
+      (room (cutPower z j) w (sum-small z at-most-a-third j .0) (square-le z at-most-a-third)))
       (le-of-eq (ap (λ (x : ℕ). (cutPower z j * w / unit + 2) * x) (sym (pow-odd q j)))))
     where
       room : (P w : ℕ) → P ≤ 89478485 → w ≤ 29826161 → 2 * P + 2 * w + 4 ≤ 268435456
@@ -203,7 +219,8 @@ module _ (p q : ℕ) (q-positive : 0 < q) (at-most-a-third : p * unit / q ≤ aT
   sum-high zero = lit≤ tt
   sum-high (suc j) =
       le-trans
-      (add-high (cutSum z j + 2 * j) (sumBottom j q) (sumTop j p q) (cutPower z j / (2 * j + 1) + 2) ((2 * j + 1) * q ^ (2 * j + 1)) (p ^ (2 * j + 1)) (sum-high j)
+      (add-high (cutSum z j + 2 * j) (sumBottom j q) (sumTop j p q) (cutPower z j / (2 * j + 1) + 2) ((2 * j + 1) * q ^ (2 * j + 1))
+      (p ^ (2 * j + 1)) (sum-high j)
       (term-high (cutPower z j) (2 * j + 1) (p ^ (2 * j + 1)) (q ^ (2 * j + 1)) (odd-positive j) (power-high j)))
       (le-of-eq (ap (λ (x : ℕ). x * (sumBottom j q * ((2 * j + 1) * q ^ (2 * j + 1)))) (group (cutSum z j) (cutPower z j / (2 * j + 1)) j)))
     where

@@ -1,8 +1,9 @@
--- Laws of squares: a step of Newton's never falls below the whole root (`newton-high`) and goes down from above it (`newton-less`), and a whole root rounds to
--- a nearest one (`rounds-down`, `rounds-up`). Assumes nothing.
+-- Laws of squares: a step of Newton's never falls below the whole root (`newton-high`) and goes down from above it
+-- (`newton-less`), and a whole root rounds to a nearest one (`rounds-down`, `rounds-up`). Assumes nothing.
 use mathlib.Core.Path.{_≡_, subst}
 use Prim.Native.Nat.{ℕ, suc, _+_, _-_, _*_, _/_, _^_, _≤_, _<_}
-use native.Mathlib.Nat.{le-of-lt, lt-of-le-of-lt, lt-of-not-le, not-le-of-lt, lt-suc-self, mul-le-mul, mul-le-mul-left, mul-lt-mul-of-pos-right, mul-comm, mul-add, add-mul, div-mul-le-self, div-lt-iff-lt-mul}
+use native.Mathlib.Nat.{le-of-lt, lt-of-le-of-lt, lt-of-not-le, not-le-of-lt, lt-suc-self, mul-le-mul, mul-le-mul-left}
+use native.Mathlib.Nat.{mul-lt-mul-of-pos-right, mul-comm, mul-add, add-mul, div-mul-le-self, div-lt-iff-lt-mul}
 use native.Mathlib.Decide.{decLe}
 use native.Mathlib.Omega.{arith}
 use lib.Dec.{lit<}
@@ -45,7 +46,17 @@ means a b = go (decLe a b)
   where
     apart : (a k : ℕ) → 4 * (a * (a + k)) ≤ (a + (a + k)) * (a + (a + k))
     apart a k =
-        omega (arith, add-mul a (a + k) (a + (a + k)), mul-add a a (a + k), mul-add (a + k) a (a + k), mul-add a a k, add-mul a k a, add-mul a k (a + k), mul-add k a k, mul-comm k a)
+        omega (
+          arith,
+          add-mul a (a + k) (a + (a + k)),
+          mul-add a a (a + k),
+          mul-add (a + k) a (a + k),
+          mul-add a a k,
+          add-mul a k a,
+          add-mul a k (a + k),
+          mul-add k a k,
+          mul-comm k a,
+        )
 
     ordered : (a b : ℕ) → a ≤ b → 4 * (a * b) ≤ (a + b) * (a + b)
     ordered a b h = subst (λ (x : ℕ). 4 * (a * x) ≤ (a + x) * (a + x)) (back a b h) (apart a (b - a))

@@ -22,7 +22,8 @@ ofField (suc x) t = (8388608 + t) * 2 ^ x
 unfoldable pub val : ℕ → ℕ
 val c = ofField (c / 8388608) (c % 8388608)
 
--- Half-unit rounding: a number rounds to the pattern c from the middle of c and the pattern below it up to the middle of c and the one above. This is twice the first.
+-- Half-unit rounding: a number rounds to the pattern c from the middle of c and the pattern
+-- below it up to the middle of c and the one above. This is twice the first.
 unfoldable pub middle : ℕ → ℕ
 unfolding val
 middle c = val (c - 1) + val c

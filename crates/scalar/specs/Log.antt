@@ -1,13 +1,14 @@
--- The logarithm: the exact fraction L, the f32 that stands for it, and that the two are within 2 ^ -19. N is the number of terms of the series, 2 ^ H the upper end.
-use mathlib.Core.Bool.{Bool, true, false, cond, _&&_}
+-- The logarithm: the exact fraction L, the f32 that stands for it, and that the two are
+-- within 2 ^ -19. N is the number of terms of the series, 2 ^ H the upper end.
+use mathlib.Core.Bool.{true, false, cond, _&&_}
 use Prim.Native.Nat.{ℕ, zero, suc, _+_, _-_, _*_, _/_, _%_, _^_, _≤_}
-use lib.IntN.{ℤ, pos, negsuc}
+use lib.IntN.{pos, negsuc}
 use lib.Dec.{leb}
 use lib.Ieee.{Float, nan, inf, fin, up, down, binary32, le, toBits, ofInt, div, neg}
 use Rattle.scalar.specs.declared.Log.{Log}
 use Rattle.scalar.specs.declared.Log.the-variants.{Value, Outside}
 
--- ---- what a longer series or a wider range changes here (with TERMS, THIRD and MOST of src/, and `thirdUnits` of Steps)
+-- ---- what a longer series or a wider range changes here (with TERMS, THIRD and MOST of src/, and `thirdUnits` of proofs/Series)
 
 -- Document 01, "over n = 1, 3, 5, 7, 9": five terms.
 abbrev pub terms : ℕ
@@ -29,7 +30,8 @@ unfolding sumBottom
 sumTop zero p q = 0
 sumTop (suc j) p q = sumTop j p q * ((2 * j + 1) * q ^ (2 * j + 1)) + p ^ (2 * j + 1) * sumBottom j q
 
--- Document 01, "For 2^e·m with m from 1 to below 2": of the pattern b of that number, e + 6, and m − 1 and m + 1 both times 2 ^ 23 (`parts` of proofs/Range).
+-- Document 01, "For 2^e·m with m from 1 to below 2": of the pattern b of that number,
+-- e + 6, and m − 1 and m + 1 both times 2 ^ 23 (`parts` of proofs/Range).
 abbrev pub doublings : ℕ → ℕ
 doublings b = b / 8388608 - 121
 
@@ -39,7 +41,8 @@ lessOne b = b % 8388608
 abbrev pub moreOne : ℕ → ℕ
 moreOne b = b % 8388608 + 16777216
 
--- Document 01, "L = e·S(1/3) + S((m−1)/(m+1)), as a fraction of whole numbers": L is 2 * (plus - minus) / whole, where `minus` takes the 6 of e + 6 off again.
+-- Document 01, "L = e·S(1/3) + S((m−1)/(m+1)), as a fraction of whole numbers":
+-- L is 2 * (plus - minus) / whole, where `minus` takes the 6 of e + 6 off again.
 unfoldable pub plus : ℕ → ℕ → ℕ
 unfolding sumTop sumBottom
 plus N b =
@@ -55,17 +58,22 @@ whole N b = sumBottom N 3 * sumBottom N (moreOne b)
 
 -- ---- Document 01: "The f32 is within 2^-19 of L"
 
--- m * 2 ^ e is within 2 ^ -19 of 2 * (x - y) / d, all multiplied out.
-pub record Close (m : ℕ) (e : ℤ) (x y d : ℕ) : Type 0 where
-  pub not-above : m * up e * d * 2 ^ 19 + y * down e * 2 ^ 20 ≤ x * down e * 2 ^ 20 + d * down e
-  pub not-below : x * down e * 2 ^ 20 ≤ m * up e * d * 2 ^ 19 + y * down e * 2 ^ 20 + d * down e
+-- |p − q|
+abbrev pub distance : ℕ → ℕ → ℕ
+distance p q = (p - q) + (q - p)
 
--- The float r is finite and within 2 ^ -19 of 2 * (x - y) / d: where r is negative, -r is within it of 2 * (y - x) / d.
+-- |top / bottom − 2 · (plus − minus) / whole| ≤ 2 ^ -19, with both sides times bottom · whole · 2 ^ 19, and what is taken off on the other side.
+abbrev pub Close : ℕ → ℕ → ℕ → ℕ → ℕ → Type 0
+Close top bottom plus minus whole =
+    distance (top * whole + 2 * (minus * bottom)) (2 * (plus * bottom)) * 2 ^ 19 ≤ whole * bottom
+
+-- The float r is finite and within 2 ^ -19 of 2 · (plus − minus) / whole. Its size m · 2 ^ e is the fraction (m · up e) / down e;
+-- where r is negative, −r is compared with 2 · (minus − plus) / whole.
 abbrev pub Within : Float → ℕ → ℕ → ℕ → Type 0
-Within nan x y d = ⊥
-Within (inf s) x y d = ⊥
-Within (fin false m e) x y d = Close m e x y d
-Within (fin true m e) x y d = Close m e y x d
+Within nan plus minus whole = ⊥
+Within (inf s) plus minus whole = ⊥
+Within (fin false m e) plus minus whole = Close (m * up e) (down e) plus minus whole
+Within (fin true m e) plus minus whole = Close (m * up e) (down e) minus plus whole
 
 -- r is within 2 ^ -19 of L at x.
 abbrev pub Near : ℕ → Float → Float → Type 0
@@ -121,11 +129,7 @@ leastBits = 0x3c80_0000
 abbrev pub mostBits : ℕ → ℕ
 mostBits H = (127 + H) * 8388608
 
-abbrev pub pick : Bool → Log → Log → Log
-pick true a b = a
-pick false a b = b
-
 unfoldable pub logOf : ℕ → ℕ → Float → Log
 unfolding difference unitsOf cutThird
 logOf N H x =
-    pick (le lowest x && le x (highest H)) (Value (difference (unitsOf N (toBits binary32 x)) (6 * cutThird N))) Outside
+    cond (le lowest x && le x (highest H)) (Value (difference (unitsOf N (toBits binary32 x)) (6 * cutThird N))) Outside

@@ -7,7 +7,8 @@ use Rattle.scalar.specs.declared.Root.{Root}
 use Rattle.scalar.specs.declared.Root.the-variants.{Value, Outside}
 use Rattle.scalar.specs.Bits.{val, middle, greatest}
 
--- Twice the middle below the pattern c, squared; and four times the number of the pattern b. Both are in units of 2 ^ -298, so that twice b's root is compared with twice the middle.
+-- Twice the middle below the pattern c, squared; and four times the number of the pattern b. Both are in units of 2 ^ -298, so that
+-- twice b's root is compared with twice the middle.
 unfoldable pub middleSquared : ℕ → ℕ
 unfolding middle
 middleSquared c = middle c * middle c

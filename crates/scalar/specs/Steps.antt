@@ -2,7 +2,6 @@
 use mathlib.Core.Path.{_≡_}
 use Prim.Native.Nat.{ℕ, _+_, _-_, _*_, _^_, _≤_, _<_}
 use Rattle.scalar.specs.Bits.{val}
-use Rattle.scalar.specs.Log.{cutThird}
 
 -- ---- the square root
 
@@ -34,10 +33,6 @@ pub record Rounds (n q : ℕ) : Type 0 where
 
 -- ---- the logarithm
 
--- `cutThird terms`, as the source has it: half of S(1/3) in units of 2 ^ -28.
-abbrev pub thirdUnits : ℕ
-thirdUnits = 93032487
-
 -- A third, in units of 2 ^ -28: (m - 1) / (m + 1) is at most this.
 abbrev pub aThird : ℕ
 aThird = 89478485
@@ -45,8 +40,3 @@ aThird = 89478485
 -- Below this a whole number is rounded to an f32 that is below 2 ^ 32.
 abbrev pub roomy : ℕ
 roomy = 4294967040
-
--- What the error law asks of the number of terms and of the upper end: few units are lost by cuts, and the sum has room.
-pub record Room (N H : ℕ) : Type 0 where
-  pub lost : H + 6 + 2 * N ≤ 128
-  pub small : (H + 6) * cutThird N + (aThird + N * 9942054) < roomy

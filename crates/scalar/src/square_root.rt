@@ -1,4 +1,5 @@
-// The square root of a bit pattern, in whole numbers: the pattern is scaled by a power of 4 to n, n's root is rounded, and the pattern put together again.
+// The square root of a bit pattern, in whole numbers: the pattern is scaled by a power of 4 to n, the root of n is rounded,
+// and the pattern is put together again.
 ghost use mathlib.Core.Path.{_≡_};
 ghost use Prim.Native.Nat.{_≤_, _<_};
 ghost use Rattle.scalar.specs.Bits.{infinite};

@@ -1,5 +1,6 @@
--- A function with plain parameters above the view: the response, the image, the width and the height, and then numbers. The view is made of the first four
--- by `new`, of which only its contract is known. A local's type names no lifetime, so a view in a local has the type with the name erased.
+-- A function with plain parameters above the view: the response, the image, the width and the height, and
+-- then numbers. The view is made of the first four by `new`, of which only its contract is known. A local's
+-- type names no lifetime, so a view in a local has the type with the name erased.
 -- Assumes nothing.
 use Prim.Native.Nat.{ℕ}
 use mathlib.Core.List.{List, [], _∷_}
@@ -51,7 +52,10 @@ module _ {M : Type 1} (𝓤 : URA M) (H : Heap 𝓤) (A : Atoms 𝓤) (W : Given
     to-new = (((κ, tt), (q, tt), tt, (s, (t, (w, (h, tt)))), (slice-vals s, (slice-vals t, (vint w64 w ∷ [], (vint w64 h ∷ [], tt))))), tt)
 
     -- of what is passed, `new` asks the first four: the rest is kept
-    pub new-asks : (extra : Fml) → ent 𝓤 (sep 𝓤 (mean 𝓤 H A (Token κ q)) (sem 𝓤 H A (Handed κ (viewOf s t w h) extra))) (sep 𝓤 (New 𝓤 H A mem run .pre to-new) (sem 𝓤 H A extra))
+    pub new-asks : (extra : Fml)
+        → ent 𝓤 (sep 𝓤 (mean 𝓤 H A (Token κ q)) (sem 𝓤 H A (Handed κ (viewOf s t w h) extra)))
+        (sep 𝓤 (New 𝓤 H A mem run .pre to-new) (sem 𝓤 H A extra))
     new-asks extra =
-        qed W (Token κ q ∷ ‵ (Handed κ (viewOf s t w h) extra) ∷ []) ∵ move ! (1 ∷ []) $ use1 W (‵ (Fields κ (viewOf s t w h)) ⊛ ‵ extra) (before 𝓤 H A W κ (viewOf s t w h) extra) $ split ! $
+        qed W (Token κ q ∷ ‵ (Handed κ (viewOf s t w h) extra) ∷ []) ∵ move ! (1 ∷ []) $
+        use1 W (‵ (Fields κ (viewOf s t w h)) ⊛ ‵ extra) (before 𝓤 H A W κ (viewOf s t w h) extra) $ split ! $
         move ! (2 ∷ 0 ∷ []) $ join ! $ nothing ! $ move ! (1 ∷ 0 ∷ []) $ join ! $ frame ! $ done !

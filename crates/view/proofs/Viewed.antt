@@ -21,10 +21,11 @@ use ghost.Atoms.{Atoms, sem}
 use contract.Lifetimes.{Lfts}
 use contract.Monad.{fact}
 use contract.Running.{Running, GhostRules, givenOf, tables}
-use types.Kit.{Given, Item, mean, ‵, raw, _⊛_, given as knowing, _$_, _∵_, !, qed, by, move, drop, use1, use2, split, join, learn, fsplit, fjoin, frame, done}
+use types.Kit.{Given, Item, mean, ‵, raw, _⊛_, given as knowing, _$_, _∵_, !, qed, by, move, drop, use1, use2, split, join, learn}
+use types.Kit.{fsplit, fjoin, frame, done}
 use types.Part.{whole, sub, look-in}
 use types.Run.{look, init, forget, stop, fld, from, load, of-opd, assigns, returns, enter, alloc1, alloc0, params1, pass1, pass0, free1, free0}
-use denote.RattleType.{RattleType, owns}
+use denote.RattleType.{RattleType}
 use denote.Laws.{Is, Tells}
 use denote.Builtin.{u8, f32, usize}
 use denote.Exit.{yes}
@@ -130,7 +131,9 @@ module _ {M : Type 1} (𝓤 : URA M) (H : Heap 𝓤) (A : Atoms 𝓤) (W : Given
   -- what a view owns is what its fields own
   pub opened : ent 𝓤 (sem 𝓤 H A (Own κ d)) (sem 𝓤 H A (Fields κ d))
   opened =
-      qed W (‵ (Own κ d) ∷ []) ∵ use1 W (knowing (mach d ∷ [] ≡ mach d ∷ []) (‵ (Fields κ d))) (own-open 𝓤 H A W (Kind κ) (laws κ) (values κ d) (mach d)) $ learn ! (λ _. done !)
+      qed W (‵ (Own κ d) ∷ []) ∵
+      use1 W (knowing (mach d ∷ [] ≡ mach d ∷ []) (‵ (Fields κ d))) (own-open 𝓤 H A W (Kind κ) (laws κ) (values κ d) (mach d)) $
+      learn ! (λ _. done !)
 
   pub shut : ent 𝓤 (sem 𝓤 H A (Fields κ d)) (sem 𝓤 H A (Own κ d))
   shut = own-shut 𝓤 H A W (Kind κ) (laws κ) (values κ d)
@@ -138,7 +141,8 @@ module _ {M : Type 1} (𝓤 : URA M) (H : Heap 𝓤) (A : Atoms 𝓤) (W : Given
   -- ---- what the fields own, with more parameters behind them
   pub behind : (extra : Fml) → ent 𝓤 (sep 𝓤 (sem 𝓤 H A (Fields κ d)) (sem 𝓤 H A extra)) (sem 𝓤 H A (Handed κ d extra))
   behind extra =
-      qed W (‵ (Fields κ d) ∷ ‵ extra ∷ []) ∵ fsplit ! $ move ! (1 ∷ []) $ fsplit ! $ move ! (1 ∷ []) $ fsplit ! $ move ! (1 ∷ []) $ fsplit ! $ move ! (1 ∷ []) $ drop ! $
+      qed W (‵ (Fields κ d) ∷ ‵ extra ∷ []) ∵ fsplit ! $ move ! (1 ∷ []) $ fsplit ! $ move ! (1 ∷ []) $ fsplit ! $ move ! (1 ∷ []) $
+      fsplit ! $ move ! (1 ∷ []) $ drop ! $
       -- [h; w; the image; the response; extra]
       move ! (0 ∷ 4 ∷ []) $ fjoin ! $ move ! (1 ∷ 0 ∷ []) $ fjoin ! $ move ! (1 ∷ 0 ∷ []) $ fjoin ! $ move ! (1 ∷ 0 ∷ []) $ fjoin ! $ done !
 
@@ -146,21 +150,27 @@ module _ {M : Type 1} (𝓤 : URA M) (H : Heap 𝓤) (A : Atoms 𝓤) (W : Given
   before extra =
       qed W (‵ (Handed κ d extra) ∷ []) ∵ fsplit ! $ move ! (1 ∷ []) $ fsplit ! $ move ! (1 ∷ []) $ fsplit ! $ move ! (1 ∷ []) $ fsplit ! $
       -- [h; extra; w; the image; the response]
-      nothing ! $ move ! (1 ∷ 0 ∷ []) $ fjoin ! $ move ! (2 ∷ 0 ∷ []) $ fjoin ! $ move ! (2 ∷ 0 ∷ []) $ fjoin ! $ move ! (2 ∷ 0 ∷ []) $ fjoin ! $ frame ! $ done !
+      nothing ! $ move ! (1 ∷ 0 ∷ []) $ fjoin ! $ move ! (2 ∷ 0 ∷ []) $ fjoin ! $ move ! (2 ∷ 0 ∷ []) $ fjoin ! $
+      move ! (2 ∷ 0 ∷ []) $ fjoin ! $ frame ! $ done !
 
   -- ---- the view is taken apart for a call of a function that takes the response, the image, the width and the height, and then what owns `extra`.
   -- Such a function has a lifetime for each slice, and gets half of the token for each; it requires nothing else
   pub handed : (q : Share) (i : Item 𝓤) (extra : Fml)
-      → ent 𝓤 (sep 𝓤 (mean 𝓤 H A (Whole κ q i)) (sem 𝓤 H A (fsep (Own κ d) extra))) (sep 𝓤 (sep 𝓤 (mean 𝓤 H A (Halves κ q i)) (sem 𝓤 H A (Handed κ d extra))) (emp 𝓤))
+      → ent 𝓤 (sep 𝓤 (mean 𝓤 H A (Whole κ q i)) (sem 𝓤 H A (fsep (Own κ d) extra)))
+      (sep 𝓤 (sep 𝓤 (mean 𝓤 H A (Halves κ q i)) (sem 𝓤 H A (Handed κ d extra))) (emp 𝓤))
   handed q i extra =
       qed W (Whole κ q i ∷ ‵ (fsep (Own κ d) extra) ∷ []) ∵
-      split ! $ use1 W (‵ (flft κ (PosShare·left q)) ⊛ ‵ (flft κ (PosShare·right q))) (W .lfts .lft-split κ q) $ split ! $ move ! (1 ∷ 2 ∷ []) $ join ! $ move ! (1 ∷ 0 ∷ []) $ join ! $
+      split ! $ use1 W (‵ (flft κ (PosShare·left q)) ⊛ ‵ (flft κ (PosShare·right q))) (W .lfts .lft-split κ q) $ split ! $
+      move ! (1 ∷ 2 ∷ []) $ join ! $ move ! (1 ∷ 0 ∷ []) $ join ! $
       -- [the halves; what the view owns, and extra]
-      move ! (1 ∷ []) $ fsplit ! $ use1 W (‵ (Fields κ d)) opened $ use2 W (‵ (Handed κ d extra)) (behind extra) $ move ! (1 ∷ 0 ∷ []) $ join ! $ frame ! $ done !
+      move ! (1 ∷ []) $ fsplit ! $ use1 W (‵ (Fields κ d)) opened $ use2 W (‵ (Handed κ d extra)) (behind extra) $
+      move ! (1 ∷ 0 ∷ []) $ join ! $ frame ! $ done !
 
   -- the token comes back
   pub rejoined : (q : Share) (i : Item 𝓤) → ent 𝓤 (mean 𝓤 H A (Halves κ q i)) (mean 𝓤 H A (Whole κ q i))
-  rejoined q i = qed W (Halves κ q i ∷ []) ∵ split ! $ move ! (1 ∷ []) $ split ! $ move ! (2 ∷ 0 ∷ []) $ use2 W (‵ (flft κ q)) (W .lfts .lft-join κ q) $ frame ! $ done !
+  rejoined q i =
+      qed W (Halves κ q i ∷ []) ∵ split ! $ move ! (1 ∷ []) $ split ! $ move ! (2 ∷ 0 ∷ []) $
+      use2 W (‵ (flft κ q)) (W .lfts .lft-join κ q) $ frame ! $ done !
 
   -- ---- the walk of a function that hands back the field k
   module _ (q : Share) (k : ℕ) where
@@ -175,31 +185,43 @@ module _ {M : Type 1} (𝓤 : URA M) (H : Heap 𝓤) (A : Atoms 𝓤) (W : Given
 
     field-out : ent 𝓤 (sem 𝓤 H A (Own κ d)) (sem 𝓤 H A (FieldOf k (κ, tt) .own (fieldIn k κ d) (getV (cells d) k ∷ [])))
     field-out =
-        subst (λ (v : Val). ent 𝓤 (sem 𝓤 H A (Own κ d)) (sem 𝓤 H A (FieldOf k (κ, tt) .own (fieldIn k κ d) (v ∷ [])))) (sym (val-get (Kind κ .parts) (laws κ) k (values κ d)))
+        subst (λ (v : Val). ent 𝓤 (sem 𝓤 H A (Own κ d)) (sem 𝓤 H A (FieldOf k (κ, tt) .own (fieldIn k κ d) (v ∷ []))))
+        (sym (val-get (Kind κ .parts) (laws κ) k (values κ d)))
         (qed W (‵ (Own κ d) ∷ []) ∵ use1 W (‵ (Fields κ d)) opened $
-        use1 W (‵ (ownAt (Kind κ .parts) (laws κ) k (getAt (Kind κ .parts) k (values κ d))) ⊛ ‵ (rest (Kind κ .parts) (laws κ) k (values κ d))) (own-out 𝓤 H A W (Kind κ .parts) (laws κ) k (values κ d)) $ split ! $
+        use1 W
+        (‵ (ownAt (Kind κ .parts) (laws κ) k (getAt (Kind κ .parts) k (values κ d)))
+        ⊛ ‵ (rest (Kind κ .parts) (laws κ) k (values κ d)))
+        (own-out 𝓤 H A W (Kind κ .parts) (laws κ) k (values κ d)) $
+        split ! $
         move ! (1 ∷ []) $ drop ! $ done !)
 
     read-ends : ent 𝓤 Entry (Post (getV (cells d) k))
     read-ends =
         qed W (Token κ q ∷ ‵ (fsep (Own κ d) ftrue) ∷ []) ∵ move ! (1 ∷ []) $ fsplit ! $ move ! (1 ∷ []) $ drop ! $
-        use1 W (‵ (FieldOf k (κ, tt) .own (fieldIn k κ d) (getV (cells d) k ∷ []))) field-out $ by ! (ends 𝓤 H A W (ended k) (clauses 𝓤 k) y (getV (cells d) k) (fieldIn k κ d) (tt, tt) (fieldIn k κ d ≡ fieldIn k κ d) refl (id⊢ 𝓤 _))
+        use1 W (‵ (FieldOf k (κ, tt) .own (fieldIn k κ d) (getV (cells d) k ∷ []))) field-out $
+        by !
+        (ends 𝓤 H A W (ended k) (clauses 𝓤 k) y (getV (cells d) k) (fieldIn k κ d) (tt, tt) (fieldIn k κ d ≡ fieldIn k κ d) refl
+        (id⊢ 𝓤 _))
 
-    read-walk : (C : Calls 𝓤 H) (Λ : Loops 𝓤 H) {τ : Ty} {o : ℕ} → fieldOf (T′.mir (named 0)) k ≡ some (τ, o) → Holds (hasTy (T′.mir (named 0)) (mach d)) × WT (mach d) → Holds (hasTy τ (getV (cells d) k)) × WT (getV (cells d) k)
+    read-walk : (C : Calls 𝓤 H) (Λ : Loops 𝓤 H) {τ : Ty} {o : ℕ} → fieldOf (T′.mir (named 0)) k ≡ some (τ, o)
+        → Holds (hasTy (T′.mir (named 0)) (mach d)) × WT (mach d) → Holds (hasTy τ (getV (cells d) k)) × WT (getV (cells d) k)
         → ent 𝓤 Entry (WpFn 𝓤 H C Λ (reader τ k) (mach d ∷ []) Post)
     read-walk C Λ {τ} e wt wf =
-        qed W (raw Entry ∷ []) ∵ enter ! C Λ (reader τ k) (mach d ∷ []) _ $ alloc1 ! (λ l₀. alloc1 ! (λ l₁. alloc0 ! $ params1 ! $ pass1 ! (init ! 0 refl wt) $ pass0 ! $
+        qed W (raw Entry ∷ []) ∵ enter ! C Λ (reader τ k) (mach d ∷ []) _ $
+        alloc1 ! (λ l₀. alloc1 ! (λ l₁. alloc0 ! $ params1 ! $ pass1 ! (init ! 0 refl wt) $ pass0 ! $
         assigns ! (of-opd ! (load ! (from ! (fld ! e (stop !))) (look-in ! 0 (sub ! k e (whole !))))) (from ! (stop !)) (init ! 2 refl wf) $
         returns ! (look ! 2 refl) $ forget ! 0 refl $ forget ! 2 refl $ move ! (2 ∷ 3 ∷ []) $ free1 ! $ free1 ! $ free0 ! $ by ! read-ends))
 
 module _ {M : Type 1} (𝓤 : URA M) (H : Heap 𝓤) (𝓜 : Model 𝓤 H) (𝓖 : GhostRules 𝓤 H) (𝓡 : Running 𝓤 H 𝓜) where
   -- such a function meets its contract. Asked: the field's type and offset, and that a view's machine value has a value of that type there
   pub hands-back : (k : ℕ) {τ : Ty} {o : ℕ} → fieldOf (T′.mir (named 0)) k ≡ some (τ, o)
-      → ((d : RadonResponseView) → Holds (hasTy (T′.mir (named 0)) (mach d)) × WT (mach d) → Holds (hasTy τ (getV (cells d) k)) × WT (getV (cells d) k))
+      → ((d : RadonResponseView) → Holds (hasTy (T′.mir (named 0)) (mach d)) × WT (mach d)
+      → Holds (hasTy τ (getV (cells d) k)) × WT (getV (cells d) k))
       → (γ : Env) (name : Name) → Closed 𝓤 H (tables 𝓤 H 𝓜 𝓡 γ .C) (tables 𝓤 H 𝓜 𝓡 γ .Λ) name (reader τ k)
       → Triple 𝓤 (tables 𝓤 H 𝓜 𝓡 γ .C name) (tripleOf 𝓤 H (𝓖 .A) (ended k .signature) (closing 𝓤 H (𝓖 .A) (ended k) (clauses 𝓤 k)))
   hands-back k {τ} e wf γ name closed =
-      met 𝓤 H 𝓜 𝓖 𝓡 γ (ended k) (clauses 𝓤 k) name (reader τ k) (λ κs. (spelled κs, tt)) (λ κs. (told κs, tt)) closed ((λ κs x f. refl), tt) (λ _ κs qs bounds a g are.
+      met 𝓤 H 𝓜 𝓖 𝓡 γ (ended k) (clauses 𝓤 k) name (reader τ k) (λ κs. (spelled κs, tt)) (λ κs. (told κs, tt)) closed
+      ((λ κs x f. refl), tt) (λ _ κs qs bounds a g are.
       let W = givenOf 𝓤 H 𝓜 𝓖 in
       let wt = typed 𝓤 H (𝓖 .A) W (κs .0) (a .0) (are .0) in
       via 𝓤 _ (fst∗ 𝓤 _ (emp 𝓤)) (read-walk 𝓤 H (𝓖 .A) W (κs .0) (a .0) (qs .0) k (tables 𝓤 H 𝓜 𝓡 γ .C) (tables 𝓤 H 𝓜 𝓡 γ .Λ) e wt (wf (a .0) wt)))

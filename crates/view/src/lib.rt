@@ -3,7 +3,7 @@ ghost use mathlib.Core.Path.{_≡_};
 ghost use Prim.Native.Nat.{_*_};
 ghost use lib.Dec.{leb};
 ghost use lib.ListN.{length};
-ghost use Rattle.detect.specs.Detected.{outcomeOf, listOf};
+ghost use Rattle.detect.specs.Detected.{peaksOutcome, listOf};
 ghost use Rattle.view.specs.View.{viewOf, rowInside, placeAt, Row};
 use params::Outcome;
 use params::RadonDetectorParams;
@@ -161,8 +161,10 @@ pub fn detect_peaks_from_radon<'a, 'l>(
     params: RadonDetectorParams,
     list: &'l mut [f32],
 ) -> Outcome
-    ensures answer { λ r. ⌜ r ≡ outcomeOf params (resp .entry .w) (resp .entry .h) (now (resp .entry .«data»)) (now (resp .entry .image)) (length (now (list .entry))) ⌝ }
-    ensures written { λ _. ⌜ now (list .exit) ≡ listOf params (resp .entry .w) (resp .entry .h) (now (resp .entry .«data»)) (now (resp .entry .image)) (now (list .entry)) ⌝ }
+    ensures answer { λ r. ⌜ r ≡ outcomeOf params (resp .entry .w) (resp .entry .h)
+        (now (resp .entry .«data»)) (now (resp .entry .image)) (length (now (list .entry))) ⌝ }
+    ensures written { λ _. ⌜ now (list .exit) ≡ listOf params (resp .entry .w) (resp .entry .h)
+        (now (resp .entry .«data»)) (now (resp .entry .image)) (now (list .entry)) ⌝ }
 {
     detect::detect_peaks_from_radon(resp.data, resp.image, resp.w, resp.h, params, list)
 }

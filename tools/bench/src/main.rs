@@ -36,7 +36,7 @@ bench times the proved finder against the published Rust, one thread each, and p
 The sides take turns, call by call, so that what disturbs the machine disturbs them alike. Before
 the timed calls each side is called once; buffers are kept from call to call and never cleared.
 On Linux the time is the processor time of the thread. Nothing is asserted about it. That all sides
-find the same number of corners, and that every pass leaves the same map to the bit, is.
+find the same number of corners, and that every pass leaves the same working image and map, is.
 ";
 
 const SIZES: [(usize, usize); 4] = [(640, 480), (1_280, 960), (2_048, 1_024), (4_096, 2_048)];
@@ -125,14 +125,17 @@ impl Frame<'_> {
         let counts = sides.each_mut().map(|side| side.count());
         assert_eq!(counts, [counts[0]; 3], "corners");
         let moved = pass.moved(self.image.pixels.len(), self.working());
-        sides.iter_mut().for_each(|side| side.call(pass));
+        for side in &mut sides {
+            side.spoil(pass);
+            side.call(pass);
+        }
         self.copy.moves(moved);
         let mut times = Times::default();
         for _ in 0..self.repeats {
             let calls = sides.each_mut().map(|side| timed(|| side.call(pass)));
             times.add(calls, timed(|| self.copy.moves(moved)));
         }
-        let [ours, others @ ..] = sides.each_ref().map(|side| bits(&**side));
+        let [ours, others @ ..] = sides.each_ref().map(|side| left(&**side));
         assert!(others.iter().all(|other| *other == ours), "different maps");
         Row {
             size: format!(
@@ -148,11 +151,13 @@ impl Frame<'_> {
     }
 }
 
-fn bits(side: &dyn Side) -> Vec<u32> {
-    side.response()
-        .iter()
-        .map(|value| value.to_bits())
-        .collect()
+/// Working image and response, to the bit.
+fn left(side: &dyn Side) -> (&[u8], Vec<u32>) {
+    let (working, response) = side.left();
+    (
+        working,
+        response.iter().map(|value| value.to_bits()).collect(),
+    )
 }
 
 fn run(options: &Options) {

@@ -11,10 +11,12 @@ use crate::pass::Pass;
 pub trait Side {
     /// Makes everything once, so that each pass has what it goes by, and tells how many corners there are.
     fn count(&mut self) -> usize;
+    /// Takes away what a pass makes, where it could be left undone and nobody would see it.
+    fn spoil(&mut self, _: Pass) {}
     /// One timed call. A blur goes on from what the call before it left.
     fn call(&mut self, pass: Pass);
-    /// The response as it stands.
-    fn response(&self) -> &[f32];
+    /// Working image and response as they stand.
+    fn left(&self) -> (&[u8], &[f32]);
 }
 
 /// Ours, the Rust by default, the Rust with u32 tables.
@@ -84,6 +86,13 @@ impl Side for Ours<'_> {
         count
     }
 
+    fn spoil(&mut self, pass: Pass) {
+        // A pass changes nothing where sizes do not fit; response and blur show that by themselves.
+        if pass == Pass::Upsample {
+            self.finder.lend().working.fill(0);
+        }
+    }
+
     fn call(&mut self, pass: Pass) {
         match pass {
             Pass::Map(_) => {
@@ -106,8 +115,9 @@ impl Side for Ours<'_> {
         }
     }
 
-    fn response(&self) -> &[f32] {
-        self.finder.map().response
+    fn left(&self) -> (&[u8], &[f32]) {
+        let map = self.finder.map();
+        (map.working, map.response)
     }
 }
 
@@ -181,8 +191,9 @@ macro_rules! original {
                 }
             }
 
-            fn response(&self) -> &[f32] {
-                $build::original::map(&self.buffers).response
+            fn left(&self) -> (&[u8], &[f32]) {
+                let map = $build::original::map(&self.buffers);
+                (map.working, map.response)
             }
         }
     };

@@ -2,29 +2,49 @@
 use mathlib.Core.Path.{_≡_, ap, _∙_}
 use Prim.Native.Nat.{_/_, min}
 use lib.ListN.{length}
-use Rattle.detect.specs.Detected.{peaksRefusal, refusalFor}
 use Rattle.detect.specs.Corners.{stride}
+use Rattle.detect.specs.Detected.{peaksRefusal, refusalFor}
+use Rattle.detect.specs.Scan.{Asked}
 use Rattle.detect.proofs.Allowing.{refuses, passes-on, answers, all-stored}
+use Rattle.detect.proofs.Scanning.{judging}
 use borrow.Author.Needs.{needs}
 use Rattle.detect.proofs.detect_peaks_from_radon.Statement.{statement}
 use Rattle.detect.proofs.detect_peaks_from_radon.Tie as tie
 
 -- from the judge back to the start
-abbrev start : tie.After-judge → tie.Start
+abbrev start : tie.After-judge-call → tie.Start
 start c = c .before .before .before .before .before
 
+-- from the scan back to where the call passed
+abbrev passed : tie.After-find-peaks → tie.Else1
+passed c = c .before .before .before
+
+-- and from the end back to the scan
+abbrev found : tie.After-full-or → tie.After-find-peaks
+found c = c .before .before .before .before
+
 -- what the judge said
-refusal : (c : tie.After-judge) → c .judge .result
+refusal : (c : tie.After-judge-call) → c .judge-call .result
     ≡ refusalFor (start c .args .params) (start c .args .w) (start c .args .h) (start c .args .response .now) (start c .args .image .now)
 refusal c =
     let o = start c .args in
-    c .judge .ensures ∙ ap (peaksRefusal (o .w) (o .h) (o .params)) (c .before .shorter .ensures)
+    c .judge-call .ensures ∙ ap (peaksRefusal (o .w) (o .h) (o .params)) (c .before .lesser .ensures)
 
-shorter-requires : tie.Need-shorter-requires
-shorter-requires c κs = search needs
+-- a call that is not refused has what the scan asks
+abbrev Fits : tie.Start → Type 0
+Fits o = Asked (o .args .params) (o .args .w) (o .args .h) (length (o .args .response .now)) (length (o .args .image .now))
 
-judge-requires : tie.Need-judge-requires
-judge-requires c κs = search needs
+asked : (c : tie.Else1) → Fits (start (c .before .before))
+asked c =
+    let j = c .before .before in
+    let o = start j .args in
+    passes-on (o .params) (o .w) (o .h) (o .response .now) (o .image .now) (o .list .now) (refusal j) (c .before .number .ensures) (c .if1 .left)
+
+lesser-requires : tie.Need-lesser-requires
+lesser-requires c κs = search needs
+
+judge-call-requires : tie.Need-judge-call-requires
+judge-call-requires c κs = search needs
 
 number-requires : tie.Need-number-requires
 number-requires c κs = search needs
@@ -34,20 +54,23 @@ refusal-requires c κs = search needs
 
 returns : tie.Need-returns
 returns c =
-    let j = c .before .before .before in
+    let n = c .before .before in
+    let j = n .before in
     let o = start j .args in
     refuses (o .params) (o .w) (o .h) (o .response .now) (o .image .now) (o .list .now)
-    (refusal j) (c .before .before .number .ensures) (c .before .if1 .taken) (c .refusal .ensures)
+    (refusal j) (n .number .ensures) (c .before .if1 .taken) (c .refusal .ensures)
+
+scan-of-requires : tie.Need-scan-of-requires
+scan-of-requires c κs = (asked c .response, asked c .ray)
 
 find-peaks-requires : tie.Need-find-peaks-requires
 find-peaks-requires c κs =
-    let j = c .before .before .before in
-    let o = start j .args in
-    passes-on (o .params) (o .w) (o .h) (o .response .now) (o .image .now) (o .list .now)
-    (refusal j) (c .before .before .number .ensures) (c .before .if1 .left)
+    let t = c .before .before in
+    let o = start (t .before .before) .args in
+    judging (o .params) (o .w) (o .h) (o .response .now) (o .image .now) (c .before .scan-of .ensures) (asked t)
 
-shorter-requires-2 : tie.Need-shorter-requires-2
-shorter-requires-2 c κs = search needs
+lesser-requires-2 : tie.Need-lesser-requires-2
+lesser-requires-2 c κs = search needs
 
 full-or-requires : tie.Need-full-or-requires
 full-or-requires c κs = search needs
@@ -57,27 +80,28 @@ same-length c = search needs
 
 returns-2 : tie.Need-returns-2
 returns-2 c =
-    let p = c .before .before .before .before in
-    let t = p .before .before in
+    let p = found c in
+    let t = passed p in
     let j = t .before .before in
     let o = start j .args in
     let f = p .find-peaks in
     answers (o .params) (o .w) (o .h) (o .response .now) (o .image .now) (o .list .now)
-    (refusal j) (t .before .number .ensures) (t .if1 .left) (f .ensures .0) (f .ensures .1)
+    (refusal j) (t .before .number .ensures) (t .if1 .left) (p .before .before .scan-of .ensures) (f .ensures)
     (all-stored (f .result) (length (o .list .now) / stride)
-    (c .before .shorter2 .ensures ∙ ap (λ n. min (f .result) (n / stride)) (f .kept .1 .1 .1 .1 .1 .0)) (c .full-or .ensures))
+    (c .before .lesser2 .ensures ∙ ap (λ n. min (f .result) (n / stride)) (f .kept .1 .1 .1 .0)) (c .full-or .ensures))
 
 pub detect-peaks-from-radon-spec : {M : Type 1} → statement M
 detect-peaks-from-radon-spec =
     tie.close
     (tie.spec
-    shorter-requires
-    judge-requires
+    lesser-requires
+    judge-call-requires
     number-requires
     refusal-requires
     returns
+    scan-of-requires
     find-peaks-requires
-    shorter-requires-2
+    lesser-requires-2
     full-or-requires
     same-length
     returns-2)

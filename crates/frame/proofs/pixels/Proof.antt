@@ -1,4 +1,4 @@
--- `frame::pixels` meets its contract: what is handed back is the file from the first pixel on, or from its end. Assumes nothing.
+-- `frame::pixels` meets its contract: the file from its first pixel on, or from its end. Assumes nothing.
 use mathlib.Core.Path.{_≡_, refl, sym, _∙_}
 use mathlib.Core.List.{List}
 use Prim.Native.Nat.{ℕ, _+_, _-_, _<_, min}
@@ -12,7 +12,8 @@ use Rattle.frame.proofs.pixels.Statement.{statement}
 use Rattle.frame.proofs.pixels.Tie as tie
 
 -- the part of the file from byte s on, where that is the first pixel or the end
-from : (file r : RefT (List ℕ)) (s : ℕ) → ptr r ≡ (ptr file .0, s + ptr file .1) → now r ≡ take (length (now file) - s) (drop s (now file))
+from : (file r : RefT (List ℕ)) (s : ℕ)
+    → ptr r ≡ (ptr file .0, s + ptr file .1) → now r ≡ take (length (now file) - s) (drop s (now file))
     → min 20 (length (now file)) ≡ s → drop s (now file) ≡ drop 20 (now file) → Pixels file r
 from file r s itself values start rest = record {
   values = values ∙ take-all (length (now file) - s) (drop s (now file)) (le-of-eq (length-drop s (now file))) ∙ rest;

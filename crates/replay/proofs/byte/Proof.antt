@@ -5,6 +5,9 @@ use borrow.Author.Needs.{needs}
 use Rattle.replay.proofs.byte.Statement.{statement}
 use Rattle.replay.proofs.byte.Tie as tie
 
+abbrev start : tie.After-wide → tie.Start
+start c = c .before .before .before .before
+
 shared-slice-read-wide : tie.Need-shared-slice-read-wide
 shared-slice-read-wide c = search needs
 
@@ -13,7 +16,7 @@ wide-requires c κs = search needs
 
 returns : tie.Need-returns
 returns c =
-    let s = c .before .before .before .before in
+    let s = start c in
     c .wide .ensures .0 ∙ entry (s .args .s .now) (s .args .at) 0 256 (c .before .before .if1 .taken)
 
 returns-2 : tie.Need-returns-2

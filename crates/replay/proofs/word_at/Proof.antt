@@ -6,6 +6,9 @@ use borrow.Author.Needs.{needs}
 use Rattle.replay.proofs.word_at.Statement.{statement}
 use Rattle.replay.proofs.word_at.Tie as tie
 
+abbrev start : tie.After-wide32 → tie.Start
+start c = c .before .before .before .before
+
 mul-wide32 : tie.Need-mul-wide32
 mul-wide32 c = search needs
 
@@ -17,7 +20,7 @@ wide32-requires c κs = search needs
 
 returns : tie.Need-returns
 returns c =
-    let s = c .before .before .before .before in
+    let s = start c in
     c .wide32 .ensures .0 ∙ entry (s .args .t .now) (s .args .i) 0 noWord (c .before .before .if1 .taken)
 
 returns-2 : tie.Need-returns-2

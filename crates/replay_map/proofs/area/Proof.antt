@@ -5,5 +5,17 @@ use borrow.Author.Needs.{needs}
 use Rattle.replay_map.proofs.area.Statement.{statement}
 use Rattle.replay_map.proofs.area.Tie as tie
 
+returns : tie.Need-returns
+returns c = search needs
+
+returns-2 : tie.Need-returns-2
+returns-2 c = search needs
+
+mul-result : tie.Need-mul-result
+mul-result c = omega (arith, mul-le-mul (c .before .if1 .left) (c .if2 .left))
+
+returns-3 : tie.Need-returns-3
+returns-3 c = search needs
+
 pub area-spec : {M : Type 1} → statement M
-area-spec = tie.close (tie.spec (λ c. search needs) (λ c. search needs) (λ c. omega (arith, mul-le-mul (c .before .if1 .left) (c .if2 .left))) (λ c. search needs))
+area-spec = tie.close (tie.spec returns returns-2 mul-result returns-3)

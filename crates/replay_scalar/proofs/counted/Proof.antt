@@ -22,8 +22,8 @@ agrees-requires c κs = search needs
 plus-requires : tie.Need-plus-requires Inv-loop μ-loop
 plus-requires c κs = search needs
 
-less-requires : tie.Need-less-requires Inv-loop μ-loop
-less-requires c κs = search needs
+lesser-requires : tie.Need-lesser-requires Inv-loop μ-loop
+lesser-requires c κs = search needs
 
 skip-requires : tie.Need-skip-requires Inv-loop μ-loop
 skip-requires c κs = search needs
@@ -50,7 +50,7 @@ counted-spec =
     loop-holds
     agrees-requires
     plus-requires
-    less-requires
+    lesser-requires
     skip-requires
     add-i
     loop-less

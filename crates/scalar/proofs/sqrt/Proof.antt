@@ -36,15 +36,27 @@ outside (fin false m k) p = absurd (subst T p tt)
 held : (c : tie.Start) → T (fits binary32 (c .args .x))
 held c = subst T (sym (c .good .0 .1)) tt
 
+returns : tie.Need-returns
+returns c = outside-nan (c .before .args .x) (c .if1 .taken)
+
+float-to-bits-b : tie.Need-float-to-bits-b
+float-to-bits-b c = no-nan-value (c .before .args .x) (c .if1 .left)
+
+root-bits-requires : tie.Need-root-bits-requires
+root-bits-requires c κs = search needs
+
+float-from-bits-t6 : tie.Need-float-from-bits-t6
+float-from-bits-t6 c = no-nan-pattern (c .root-bits .result) (omega arith)
+
+returns-2 : tie.Need-returns-2
+returns-2 c =
+    let a = c .before .before .before in
+    inside (a .args .x) (c .root-bits .result) (from-zero (a .args .x) (held a) (c .before .if2 .taken)) (c .root-bits .ensures .0)
+
+returns-3 : tie.Need-returns-3
+returns-3 c = let a = c .before .before in outside (a .args .x) (not-from-zero (a .args .x) (held a) (c .if2 .left))
+
 pub sqrt-spec : {M : Type 1} → statement M
 sqrt-spec =
     tie.close
-    (tie.spec
-    (λ c. outside-nan (c .before .args .x) (c .if1 .taken))
-    (λ c. no-nan-value (c .before .args .x) (c .if1 .left))
-    (λ c κs. search needs)
-    (λ c. no-nan-pattern (c .root-bits .result) (omega arith))
-    (λ c.
-    let a = c .before .before .before in
-    inside (a .args .x) (c .root-bits .result) (from-zero (a .args .x) (held a) (c .before .if2 .taken)) (c .root-bits .ensures .0))
-    (λ c. let a = c .before .before in outside (a .args .x) (not-from-zero (a .args .x) (held a) (c .if2 .left))))
+    (tie.spec returns float-to-bits-b root-bits-requires float-from-bits-t6 returns-2 returns-3)

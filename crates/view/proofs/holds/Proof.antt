@@ -2,7 +2,7 @@
 -- Assumes nothing.
 use borrow.Author.Needs.{needs}
 use native.Mathlib.Omega.{arith}
-use Rattle.view.specs.Steps.{none-fit, rows-fit}
+use Rattle.view.proofs.Steps.{none-fit, rows-fit}
 use Rattle.view.proofs.holds.Statement.{statement}
 use Rattle.view.proofs.holds.Tie as tie
 

@@ -55,9 +55,19 @@ module _ {M : Type 1} (𝓤 : URA M) (H : Heap 𝓤) (A : Atoms 𝓤) (mem : Mem
   abbrev At : Contract 𝓤
   At = tripleOf 𝓤 H A at.signature (at.spec 𝓤 H A mem run)
 
-module _ {M : Type 1} (𝓤 : URA M) (H : Heap 𝓤) (A : Atoms 𝓤) (W : Given 𝓤 H A) (mem : Memory → SProp 𝓤) (run : Routine → Fun 𝓤) (κ : Lft) (q : Share) (s : RefT (List Float)) (t : RefT (List ℕ)) (w h x y : ℕ) where
+module _ {M : Type 1} (𝓤 : URA M) (H : Heap 𝓤) (A : Atoms 𝓤) (W : Given 𝓤 H A) (mem : Memory → SProp 𝓤) (run : Routine → Fun 𝓤)
+    (κ : Lft) (q : Share) (s : RefT (List Float)) (t : RefT (List ℕ)) (w h x y : ℕ) where
   abbrev z : walkOf 𝓤 H A read.ended (gone read.ended) (read.clauses 𝓤 H A mem run) .Ghost
-  z = (((κ, tt), (q, tt), tt, (s, (t, (w, (h, (x, (y, tt)))))), (slice-vals s, (slice-vals t, (vint w64 w ∷ [], (vint w64 h ∷ [], (vint w64 x ∷ [], (vint w64 y ∷ [], tt))))))), tt)
+  z = (
+    (
+      (κ, tt),
+      (q, tt),
+      tt,
+      (s, (t, (w, (h, (x, (y, tt)))))),
+      (slice-vals s, (slice-vals t, (vint w64 w ∷ [], (vint w64 h ∷ [], (vint w64 x ∷ [], (vint w64 y ∷ [], tt)))))),
+    ),
+    tt,
+  )
 
   abbrev Entry : SProp 𝓤
   Entry = onEntry 𝓤 H A read.signature (κ, tt) (q, tt) (z .0 .3) (z .0 .4)
@@ -76,42 +86,75 @@ module _ {M : Type 1} (𝓤 : URA M) (H : Heap 𝓤) (A : Atoms 𝓤) (W : Given
   abbrev to-at : RadonResponseView → Val → At 𝓤 H A mem run .Ghost
   to-at r u = (((κ, tt), (q, tt), tt, (r, (x, (y, tt))), (u ∷ [], (vint w64 x ∷ [], (vint w64 y ∷ [], tt)))), tt)
 
-  at-asks : (r : RadonResponseView) (u : Val) → ent 𝓤 (⋆ 𝓤 H A (‵ (ViewAt (κ, tt) .own r (u ∷ [])) ∷ Token κ q ∷ ‵ Numbers ∷ [])) (At 𝓤 H A mem run .pre (to-at r u))
-  at-asks r u = qed W (‵ (ViewAt (κ, tt) .own r (u ∷ [])) ∷ Token κ q ∷ ‵ Numbers ∷ []) ∵ move ! (0 ∷ 2 ∷ []) $ fjoin ! $ move ! (1 ∷ 0 ∷ []) $ join ! $ frame ! $ done !
+  at-asks : (r : RadonResponseView) (u : Val)
+      → ent 𝓤 (⋆ 𝓤 H A (‵ (ViewAt (κ, tt) .own r (u ∷ [])) ∷ Token κ q ∷ ‵ Numbers ∷ [])) (At 𝓤 H A mem run .pre (to-at r u))
+  at-asks r u =
+      qed W (‵ (ViewAt (κ, tt) .own r (u ∷ [])) ∷ Token κ q ∷ ‵ Numbers ∷ []) ∵ move ! (0 ∷ 2 ∷ []) $ fjoin ! $
+      move ! (1 ∷ 0 ∷ []) $ join ! $ frame ! $ done !
 
-  module _ (C : Calls 𝓤 H) (Λ : Loops 𝓤 H) (fm : FmC 𝓤 H (W .laws) C) (known-new : Triple 𝓤 (C new-def.name) (New 𝓤 H A mem run)) (known-at : Triple 𝓤 (C at-def.name) (At 𝓤 H A mem run)) where
-    walk : Is (ShrSlice (named 0) κ f32) s (slice-vals s) → Is (ShrSlice (named 0) κ u8) t (slice-vals t) → w < 2 ^ 64 → h < 2 ^ 64 → x < 2 ^ 64 → y < 2 ^ 64
+  module _ (C : Calls 𝓤 H) (Λ : Loops 𝓤 H) (fm : FmC 𝓤 H (W .laws) C)
+      (known-new : Triple 𝓤 (C new-def.name) (New 𝓤 H A mem run)) (known-at : Triple 𝓤 (C at-def.name) (At 𝓤 H A mem run)) where
+    walk : Is (ShrSlice (named 0) κ f32) s (slice-vals s) → Is (ShrSlice (named 0) κ u8) t (slice-vals t) → w < 2 ^ 64
+        → h < 2 ^ 64 → x < 2 ^ 64 → y < 2 ^ 64
         → ent 𝓤 Entry (WpFn 𝓤 H C Λ code.function (lent s ∷ lent t ∷ vint w64 w ∷ vint w64 h ∷ vint w64 x ∷ vint w64 y ∷ []) Post)
     walk ps pt fw fh fx fy =
         qed W (raw Entry ∷ []) ∵ enter ! C Λ code.function (lent s ∷ lent t ∷ vint w64 w ∷ vint w64 h ∷ vint w64 x ∷ vint w64 y ∷ []) _ $
-        alloc1 ! (λ l₀. alloc1 ! (λ l₁. alloc1 ! (λ l₂. alloc1 ! (λ l₃. alloc1 ! (λ l₄. alloc1 ! (λ l₅. alloc1 ! (λ l₆. alloc1 ! (λ l₇. alloc0 ! $ params1 ! $
+        alloc1 ! (λ l₀. alloc1 ! (λ l₁. alloc1 ! (λ l₂. alloc1 ! (λ l₃. alloc1 ! (λ l₄. alloc1 ! (λ l₅. alloc1 ! (λ l₆. alloc1 !
+        (λ l₇. alloc0 ! $ params1 ! $
         -- [_7; …; _6; …; _5; …; _4; …; _3; …; _2; …; _1; …; _0; …; what was passed]
-        pass1 ! (init ! 12 refl (shr-slice-lawful 𝓤 H A W (named 0) κ f32 .typed s (slice-vals s) ps .0)) $ pass1 ! (init ! 10 refl (shr-slice-lawful 𝓤 H A W (named 0) κ u8 .typed t (slice-vals t) pt .0)) $
-        pass1 ! (init ! 8 refl (tt, record { fits = fw })) $ pass1 ! (init ! 6 refl (tt, record { fits = fh })) $ pass1 ! (init ! 4 refl (tt, record { fits = fx })) $ pass1 ! (init ! 2 refl (tt, record { fits = fy })) $ pass0 ! $
-        move ! (16 ∷ []) $ use1 W (raw (New 𝓤 H A mem run .pre (to-new 𝓤 H A W mem run κ q s t w h)) ⊛ ‵ Numbers) (new-asks 𝓤 H A W mem run κ q s t w h Numbers) $ split ! $
+        pass1 ! (init ! 12 refl (shr-slice-lawful 𝓤 H A W (named 0) κ f32 .typed s (slice-vals s) ps .0)) $
+        pass1 ! (init ! 10 refl (shr-slice-lawful 𝓤 H A W (named 0) κ u8 .typed t (slice-vals t) pt .0)) $
+        pass1 ! (init ! 8 refl (tt, record { fits = fw })) $ pass1 ! (init ! 6 refl (tt, record { fits = fh })) $
+        pass1 ! (init ! 4 refl (tt, record { fits = fx })) $ pass1 ! (init ! 2 refl (tt, record { fits = fy })) $ pass0 ! $
+        move ! (16 ∷ []) $
+        use1 W (raw (New 𝓤 H A mem run .pre (to-new 𝓤 H A W mem run κ q s t w h)) ⊛ ‵ Numbers)
+        (new-asks 𝓤 H A W mem run κ q s t w h Numbers) $
+        split ! $
         calls-at ! fm (New 𝓤 H A mem run) known-new (to-new 𝓤 H A W mem run κ q s t w h)
-        (and-then ! (load ! (from ! (stop !)) (look ! 14 refl)) (and-then ! (load ! (from ! (stop !)) (look ! 12 refl)) (and-then ! (load ! (from ! (stop !)) (look ! 10 refl)) (and-then ! (load ! (from ! (stop !)) (look ! 8 refl)) (no-more !))))) (λ u.
-        answered ! tt new.ended (new.clauses 𝓤 H A mem run) (to-new 𝓤 H A W mem run κ q s t w h) u (Token κ q) (id⊢ 𝓤 _) (λ r. r ≡ viewOf s t w h) (λ r e. id⊢ 𝓤 _) (λ r made is.
+        (and-then ! (load ! (from ! (stop !)) (look ! 14 refl))
+        (and-then ! (load ! (from ! (stop !)) (look ! 12 refl))
+        (and-then ! (load ! (from ! (stop !)) (look ! 10 refl))
+        (and-then ! (load ! (from ! (stop !)) (look ! 8 refl)) (no-more !)))))
+        (λ u.
+        answered ! tt new.ended (new.clauses 𝓤 H A mem run) (to-new 𝓤 H A W mem run κ q s t w h) u (Token κ q) (id⊢ 𝓤 _)
+        (λ r. r ≡ viewOf s t w h) (λ r e. id⊢ 𝓤 _) (λ r made is.
         -- [what the view owns; the token; what the numbers own; room for _7; …; _6; …; _0; …]
-        land ! (from ! (stop !)) (init ! 3 refl (in-local 𝓤 H A W mem run κ r u is)) $ use3 W (raw (At 𝓤 H A mem run .pre (to-at r u))) (at-asks r u) $
-        calls-at ! fm (At 𝓤 H A mem run) known-at (to-at r u) (and-then ! (load ! (from ! (stop !)) (look ! 1 refl)) (and-then ! (load ! (from ! (stop !)) (look ! 5 refl)) (and-then ! (load ! (from ! (stop !)) (look ! 3 refl)) (no-more !)))) (λ v.
+        land ! (from ! (stop !)) (init ! 3 refl (in-local 𝓤 H A W mem run κ r u is)) $
+        use3 W (raw (At 𝓤 H A mem run .pre (to-at r u))) (at-asks r u) $
+        calls-at ! fm (At 𝓤 H A mem run) known-at (to-at r u)
+        (and-then ! (load ! (from ! (stop !)) (look ! 1 refl))
+        (and-then ! (load ! (from ! (stop !)) (look ! 5 refl)) (and-then ! (load ! (from ! (stop !)) (look ! 3 refl)) (no-more !))))
+        (λ v.
         answered ! tt at.ended (at.clauses 𝓤 H A mem run) (to-at r u) v (Token κ q) (id⊢ 𝓤 _) (λ p. p ≡ placeIn r) (λ p e. id⊢ 𝓤 _) (λ p found is′.
         -- [the result; the token; _7; …; _0; …]
         land ! (from ! (stop !)) (init ! 16 refl (EL.lawful P.the-type P′.the-laws 𝓤 H A W tt .typed p _ is′ .0)) $ returns ! (look ! 16 refl) $
-        forget ! 2 refl $ forget ! 4 refl $ forget ! 6 refl $ forget ! 8 refl $ forget ! 10 refl $ forget ! 12 refl $ forget ! 14 refl $ forget ! 16 refl $
+        forget ! 2 refl $ forget ! 4 refl $ forget ! 6 refl $ forget ! 8 refl $ forget ! 10 refl $ forget ! 12 refl $
+        forget ! 14 refl $ forget ! 16 refl $
         move ! (16 ∷ 17 ∷ []) $ free1 ! $ move ! (14 ∷ 15 ∷ []) $ free1 ! $ move ! (12 ∷ 13 ∷ []) $ free1 ! $ move ! (10 ∷ 11 ∷ []) $ free1 ! $
         move ! (8 ∷ 9 ∷ []) $ free1 ! $ move ! (6 ∷ 7 ∷ []) $ free1 ! $ move ! (4 ∷ 5 ∷ []) $ free1 ! $ move ! (2 ∷ 3 ∷ []) $ free1 ! $ free0 ! $
-        by ! (ends 𝓤 H A W read.ended (read.clauses 𝓤 H A mem run) z v p (tt, (tt, (tt, (tt, (tt, (tt, tt)))))) (p ≡ placeIn (viewOf s t w h)) (found ∙ ap placeIn made) (id⊢ 𝓤 _))))))))))))))
+        by !
+        (ends 𝓤 H A W read.ended (read.clauses 𝓤 H A mem run) z v p (tt, (tt, (tt, (tt, (tt, (tt, tt))))))
+        (p ≡ placeIn (viewOf s t w h)) (found ∙ ap placeIn made) (id⊢ 𝓤 _))))))))))))))
 
 pub read-place-spec : {M : Type 1} → stated.statement M
 unfolding code.routine
 read-place-spec 𝓤 H 𝓜 𝓖 𝓡 =
-    let known-new = cited 𝓤 H (New 𝓤 H (𝓖 .A) (𝓜 .mem) (𝓡 .run)) 𝓜 𝓡 code.env new-def.name new-def.routine code.calls-view·RadonResponseView·new (new-thm.met 𝓤 H 𝓜 𝓖 𝓡) in
-    let known-at = cited 𝓤 H (At 𝓤 H (𝓖 .A) (𝓜 .mem) (𝓡 .run)) 𝓜 𝓡 code.env at-def.name at-def.routine code.calls-view·RadonResponseView·at (at-thm.met 𝓤 H 𝓜 𝓖 𝓡) in
+    let known-new =
+    cited 𝓤 H (New 𝓤 H (𝓖 .A) (𝓜 .mem) (𝓡 .run)) 𝓜 𝓡 code.env new-def.name new-def.routine code.calls-view·RadonResponseView·new
+    (new-thm.met 𝓤 H 𝓜 𝓖 𝓡) in
+    let known-at =
+    cited 𝓤 H (At 𝓤 H (𝓖 .A) (𝓜 .mem) (𝓡 .run)) 𝓜 𝓡 code.env at-def.name at-def.routine code.calls-view·RadonResponseView·at
+    (at-thm.met 𝓤 H 𝓜 𝓖 𝓡) in
     met 𝓤 H 𝓜 𝓖 𝓡 code.env read.ended (read.clauses 𝓤 H (𝓖 .A) (𝓜 .mem) (𝓡 .run)) name code.function
     (λ κs. (slice-vals, (slice-vals, (uint-vals w64, (uint-vals w64, (uint-vals w64, (uint-vals w64, tt)))))))
-    (λ κs. (shr-slice-tells (named 0) (κs .0) f32, (shr-slice-tells (named 0) (κs .0) u8, (uint-tells w64, (uint-tells w64, (uint-tells w64, (uint-tells w64, tt))))))) (code.unfolded 𝓤 H 𝓜 𝓡)
-    ((λ κs v f. refl), ((λ κs v f. refl), ((λ κs v f. refl), ((λ κs v f. refl), ((λ κs v f. refl), ((λ κs v f. refl), tt)))))) (λ fm κs qs bounds a g are. via 𝓤 _ (fst∗ 𝓤 _ (emp 𝓤))
-    (walk 𝓤 H (𝓖 .A) (givenOf 𝓤 H 𝓜 𝓖) (𝓜 .mem) (𝓡 .run) (κs .0) (qs .0) (a .0) (a .1 .0) (a .1 .1 .0) (a .1 .1 .1 .0) (a .1 .1 .1 .1 .0) (a .1 .1 .1 .1 .1 .0)
+    (λ κs. (
+      shr-slice-tells (named 0) (κs .0) f32,
+      (shr-slice-tells (named 0) (κs .0) u8, (uint-tells w64, (uint-tells w64, (uint-tells w64, (uint-tells w64, tt))))),
+    ))
+    (code.unfolded 𝓤 H 𝓜 𝓡)
+    ((λ κs v f. refl), ((λ κs v f. refl), ((λ κs v f. refl), ((λ κs v f. refl), ((λ κs v f. refl), ((λ κs v f. refl), tt))))))
+    (λ fm κs qs bounds a g are. via 𝓤 _ (fst∗ 𝓤 _ (emp 𝓤))
+    (walk 𝓤 H (𝓖 .A) (givenOf 𝓤 H 𝓜 𝓖) (𝓜 .mem) (𝓡 .run) (κs .0) (qs .0) (a .0) (a .1 .0) (a .1 .1 .0) (a .1 .1 .1 .0)
+    (a .1 .1 .1 .1 .0) (a .1 .1 .1 .1 .1 .0)
     (tables 𝓤 H 𝓜 𝓡 code.env .C) (tables 𝓤 H 𝓜 𝓡 code.env .Λ) fm known-new known-at
     (are .0) (are .1 .0) (are .1 .1 .0 .1) (are .1 .1 .1 .0 .1) (are .1 .1 .1 .1 .0 .1) (are .1 .1 .1 .1 .1 .0 .1)))

@@ -2,7 +2,7 @@
 -- Assumes nothing.
 use borrow.Author.Needs.{needs}
 use native.Mathlib.Omega.{arith}
-use Rattle.view.specs.Steps.{row-past, first-decides, second-decides}
+use Rattle.view.proofs.Steps.{row-past, first-decides, second-decides}
 use Rattle.view.proofs.row_inside.Statement.{statement}
 use Rattle.view.proofs.row_inside.Tie as tie
 

@@ -1,6 +1,6 @@
--- `detect::neighbors::count_positive_neighbors` meets its contract. The invariant counts the rows passed whole; the centre goes off at the end. Assumes nothing.
-use mathlib.Core.Path.{_≡_, _∙_}
-use Prim.Native.Nat.{ℕ, _+_, _-_, _*_, _≤_}
+-- `detect::neighbors::count_positive_neighbors` meets its contract: the window's count, less the centre where that is above zero. Assumes nothing.
+use mathlib.Core.Path.{_≡_}
+use Prim.Native.Nat.{ℕ, _+_}
 use native.Mathlib.Omega.{arith}
 use mathlib.Core.List.{List}
 use lib.ListN.{length}
@@ -15,88 +15,57 @@ use Rattle.detect.proofs.Windows.{room-row, part-length, part-count, po
 use Rattle.detect.proofs.neighbors.count_positive_neighbors.Statement.{statement}
 use Rattle.detect.proofs.neighbors.count_positive_neighbors.Tie as tie
 
--- n of the places passed are above zero
-abbrev Counted : (ℕ → ℕ → Float) → ℕ → List Place → Type 0
-Counted f n l = n ≡ count (λ q. lt f0 (at f q)) l
+positive-in-window-requires : tie.Need-positive-in-window-requires
+positive-in-window-requires c κs = search needs
 
-abbrev Inv-loop : tie.InvT-loop
-Inv-loop resp w h x y r ax n ay ey count₀ yy₀ count yy =
-    Down (Counted (value resp w) count) (x - r) (x + r + 1) (y - r) (y + r + 1) yy × (count ≤ 8192 * yy)
+mul-if1 : tie.Need-mul-if1
+mul-if1 c = omega arith
 
-abbrev μ-loop : tie.MeasureT-loop
-μ-loop resp w h x y r ax n ay ey count₀ yy₀ count yy = ey - yy
+add-if1 : tie.Need-add-if1
+add-if1 c = omega arith
 
--- the row ends within the map
-row : (c : tie.In-loop Inv-loop μ-loop) → c .before .loop .yy * c .before .before .before .args .w + c .before .before .before .args .w ≤ length (c .before .before .before .args .resp .now)
-row c = room-row (c .before .before .before .pre) (c .loop-test .taken)
+mul-if1-2 : tie.Need-mul-if1-2
+mul-if1-2 c = omega arith
 
-positive-in-requires : tie.Need-positive-in-requires Inv-loop μ-loop
-positive-in-requires c κs =
-    let o = c .before .before .before .before in
-    omega (arith, part-length (o .args .resp .now) (o .pre) (c .before .loop-test .taken))
+shared-slice-read-if1 : tie.Need-shared-slice-read-if1
+shared-slice-read-if1 c = omega arith
 
--- the row's count is that of its places
-counted : (c : tie.After-positive-in Inv-loop μ-loop) →
-    (c .positive-in .result ≡ count (λ q. lt f0 (at (value (c .before .before .before .before .before .args .resp .now) (c .before .before .before .before .before .args .w)) q)) (line (c .before .before .before .before .before .args .x - c .before .before .before .before .before .args .r) (c .before .before .before .before .before .args .x + c .before .before .before .before .before .args .r + 1) (c .before .before .before .loop .yy)))
-    × (c .positive-in .result ≤ 8192)
-counted c =
-    let o = c .before .before .before .before .before in
-    let e = c .positive-in .ensures ∙ part-count (o .args .resp .now) (o .pre) (c .before .before .loop-test .taken) in
-    (e, omega (arith, e, count-most (λ q. lt f0 (at (value (o .args .resp .now) (o .args .w)) q)) (line (o .args .x - o .args .r) (o .args .x + o .args .r + 1) (c .before .before .before .loop .yy)), length-line (o .args .x - o .args .r) (o .args .x + o .args .r + 1) (c .before .before .before .loop .yy)))
+-- from the window's count back to the start
+abbrev start : tie.After-positive-in-window → tie.Start
+start c = c .before .before
 
-loop-again : tie.Need-loop-again Inv-loop μ-loop
-loop-again c =
-    let r = counted c in
-    (down-row _ _ _ _ _ _ (c .before .before .before .loop .inv .0) (c .before .before .loop-test .taken) (λ h. rw (count-append, ← h, ← r .0)), omega (arith, r .1))
+-- what is to be answered
+abbrev answer : tie.Start → ℕ
+answer o = positives (value (o .args .resp .now) (o .args .w)) (o .args .r) (place (o .args .x) (o .args .y))
 
--- the whole window's count
-whole : (c : tie.After-loop Inv-loop μ-loop) → Counted (value (c .before .before .before .args .resp .now) (c .before .before .before .args .w)) (c .before .loop .count) (window (c .before .before .before .args .r) (place (c .before .before .before .args .x) (c .before .before .before .args .y)))
-whole c = down-all _ _ _ _ _ (c .before .loop .inv .0) (c .loop-test .left)
+-- the centre was counted
+one-more : (c : tie.Then1) → c .before .before .positive-in-window .result ≡ answer (start (c .before .before)) + 1
+one-more c =
+    let n = c .before .before in
+    let o = start n in
+    positives-more _ (o .args .r) (o .args .x) (o .args .y) (o .pre .left) (o .pre .above) (n .positive-in-window .ensures) (c .if1 .taken)
 
-sub-result : tie.Need-sub-result Inv-loop μ-loop
-sub-result c =
-    let o = c .before .before .before .before .before in
-    omega (arith, positives-more (value (o .args .resp .now) (o .args .w)) (o .args .r) (o .args .x) (o .args .y) (o .pre .left) (o .pre .above) (whole (c .before .before)) (c .if1 .taken))
+sub-result : tie.Need-sub-result
+sub-result c = omega (arith, one-more c)
 
-returns : tie.Need-returns Inv-loop μ-loop
-returns c =
-    let o = c .before .before .before .before .before in
-    omega (arith, positives-more (value (o .args .resp .now) (o .args .w)) (o .args .r) (o .args .x) (o .args .y) (o .pre .left) (o .pre .above) (whole (c .before .before)) (c .if1 .taken))
+returns : tie.Need-returns
+returns c = omega (arith, one-more c)
 
-returns-2 : tie.Need-returns-2 Inv-loop μ-loop
+returns-2 : tie.Need-returns-2
 returns-2 c =
-    let o = c .before .before .before .before .before in
-    positives-same (value (o .args .resp .now) (o .args .w)) (o .args .r) (o .args .x) (o .args .y) (o .pre .left) (o .pre .above) (whole (c .before .before)) (c .if1 .left)
+    let n = c .before .before in
+    let o = start n in
+    positives-same _ (o .args .r) (o .args .x) (o .args .y) (o .pre .left) (o .pre .above) (n .positive-in-window .ensures) (c .if1 .left)
 
 pub count-positive-neighbors-spec : {M : Type 1} → statement M
 count-positive-neighbors-spec =
     tie.close
     (tie.spec
-    Inv-loop
-    μ-loop
-    (λ c. omega arith)
-    (λ c. omega arith)
-    (λ c. omega arith)
-    (λ c. omega arith)
-    (λ c. omega arith)
-    (λ c. omega arith)
-    (λ c. (down-none _ _ _ _ _ (omega arith) (count-none _), omega arith))
-    (λ c. omega (arith, row c))
-    (λ c. omega (arith, row c))
-    (λ c. omega (arith, row c))
-    (λ c. omega (arith, row c))
-    (λ c. omega (arith, row c))
-    (λ c. omega (arith, row c))
-    (λ c. omega (arith, row c))
-    positive-in-requires
-    (λ c. omega (arith, counted c .1))
-    (λ c. omega arith)
-    (λ c. omega arith)
-    loop-again
-    (λ c. omega (arith, room-row (c .before .before .before .pre) {yy = c .before .before .before .args .y} (omega arith)))
-    (λ c. omega (arith, room-row (c .before .before .before .pre) {yy = c .before .before .before .args .y} (omega arith)))
-    (λ c. omega (arith, room-row (c .before .before .before .pre) {yy = c .before .before .before .args .y} (omega arith)))
-    (λ c. omega (arith, room-row (c .before .before .before .before .pre) {yy = c .before .before .before .before .args .y} (omega arith)))
+    positive-in-window-requires
+    mul-if1
+    add-if1
+    mul-if1-2
+    shared-slice-read-if1
     sub-result
     returns
     returns-2)

@@ -1,6 +1,5 @@
 -- `detect::neighbors::is_local_max` meets its contract. The invariant: none of the rows passed has a greater value. Assumes nothing.
-use mathlib.Core.Path.{_≡_, sym, _∙_}
-use Prim.Native.Nat.{ℕ, _+_, _-_, _*_, _≤_}
+use Prim.Native.Nat.{_-_}
 use native.Mathlib.Omega.{arith}
 use mathlib.Core.Bool.{false}
 use lib.ListN.{length}
@@ -15,44 +14,83 @@ use Rattle.detect.proofs.Windows.{room-row, nearest-beats, beaten-is, p
 use Rattle.detect.proofs.neighbors.is_local_max.Statement.{statement}
 use Rattle.detect.proofs.neighbors.is_local_max.Tie as tie
 
--- none of the places passed is greater
-abbrev Free : (ℕ → ℕ → Float) → Float → List Place → Type 0
-Free f v l = any (λ q. lt v (at f q)) l ≡ false
-
 abbrev Inv-loop : tie.InvT-loop
-Inv-loop resp w h x y r v ax n ay ey yy₀ yy = Down (Free (value resp w) v) (x - r) (x + r + 1) (y - r) (y + r + 1) yy
+Inv-loop resp w h x y r v n ay ey yy₀ yy = FreeTo resp w x y r v yy
 
 abbrev μ-loop : tie.MeasureT-loop
-μ-loop resp w h x y r v ax n ay ey yy₀ yy = ey - yy
+μ-loop resp w h x y r v n ay ey yy₀ yy = ey - yy
+
+-- from the loop back to the start
+abbrev start : tie.At-loop Inv-loop μ-loop → tie.Start Inv-loop μ-loop
+start c = c .before .before .before
+
+-- a turn: its test, and where it began
+abbrev turn : tie.After-next-above Inv-loop μ-loop → tie.In-loop Inv-loop μ-loop
+turn c = c .before .before
+
+near-beats-requires : tie.Need-near-beats-requires Inv-loop μ-loop
+near-beats-requires c κs = cross (c .before .before .pre .0) (c .if1 .taken)
+
+-- from the nearest back to the start
+abbrev near : tie.After-near-beats Inv-loop μ-loop → tie.Start Inv-loop μ-loop
+near c = c .before .before .before
 
 returns : tie.Need-returns Inv-loop μ-loop
 returns c =
-    let o = c .before .before .before .before in
-    beaten-is (value (o .args .resp .now) (o .args .w)) (o .args .r) (o .args .x) (o .args .y) (o .pre .1)
-    (nearest-beats _ (o .args .v) (o .pre .0) (c .before .before .if1 .taken) (sym (c .before .near-beats .ensures) ∙ c .if2 .taken))
+    let b = c .before in
+    let o = near b in
+    beaten-near (o .args .resp .now) (o .pre .0) (o .pre .1) (b .before .if1 .taken) (b .near-beats .ensures) (c .if2 .taken)
 
--- the row ends within the map
-row : (c : tie.In-loop Inv-loop μ-loop) → c .before .loop .yy * c .before .before .before .before .args .w + c .before .before .before .before .args .w ≤ length (c .before .before .before .before .args .resp .now)
-row c = room-row (c .before .before .before .before .pre .0) (c .loop-test .taken)
+add-n : tie.Need-add-n Inv-loop μ-loop
+add-n c = omega arith
+
+add-n-2 : tie.Need-add-n-2 Inv-loop μ-loop
+add-n-2 c = omega arith
+
+sub-ay : tie.Need-sub-ay Inv-loop μ-loop
+sub-ay c = omega arith
+
+add-ey : tie.Need-add-ey Inv-loop μ-loop
+add-ey c = omega arith
+
+add-ey-2 : tie.Need-add-ey-2 Inv-loop μ-loop
+add-ey-2 c = omega arith
+
+loop-holds : tie.Need-loop-holds Inv-loop μ-loop
+loop-holds c =
+    let o = c .before .before in
+    free-none (o .args .resp .now) (o .pre .0) (o .args .v)
+
+row-part-requires : tie.Need-row-part-requires Inv-loop μ-loop
+row-part-requires c κs = room-row (start (c .before) .pre .0) (c .loop-test .taken)
+
+next-above-requires : tie.Need-next-above-requires Inv-loop μ-loop
+next-above-requires c κs = omega arith
 
 returns-2 : tie.Need-returns-2 Inv-loop μ-loop
 returns-2 c =
-    let o = c .before .before .before .before .before .before .before in
-    let l = c .before .before .before .before .loop in
-    beaten-is (value (o .args .resp .now) (o .args .w)) (o .args .r) (o .args .x) (o .args .y) (o .pre .1)
-    (part-beats (o .args .resp .now) (o .pre .0) (c .before .before .before .loop-test .taken) (o .args .v) (l .inv .least) (c .before .next-above .ensures) (c .if3 .taken))
+    let t = turn (c .before) in
+    let o = start (t .before) in
+    beaten-row (o .args .resp .now) (o .pre .0) (o .pre .1) (t .before .loop .inv) (t .loop-test .taken)
+    (c .before .before .row-part .ensures) (c .before .next-above .ensures) (c .if3 .taken)
+
+add-yy : tie.Need-add-yy Inv-loop μ-loop
+add-yy c = omega arith
+
+loop-less : tie.Need-loop-less Inv-loop μ-loop
+loop-less c = omega arith
 
 loop-again : tie.Need-loop-again Inv-loop μ-loop
 loop-again c =
-    let o = c .before .before .before .before .before .before .before in
-    let t = c .before .before .before .loop-test .taken in
-    let e = part-free (o .args .resp .now) (o .pre .0) t (o .args .v) (c .before .next-above .ensures) (c .if3 .left) in
-    down-row _ _ _ _ _ _ (c .before .before .before .before .loop .inv) t (λ h. rw (any-append, h) e)
+    let t = turn (c .before) in
+    let o = start (t .before) in
+    free-more (o .args .resp .now) (o .pre .0) (o .args .v) (t .before .loop .inv) (t .loop-test .taken)
+    (c .before .before .row-part .ensures) (c .before .next-above .ensures) (c .if3 .left)
 
 returns-3 : tie.Need-returns-3 Inv-loop μ-loop
 returns-3 c =
-    let o = c .before .before .before .before in
-    beaten-is (value (o .args .resp .now) (o .args .w)) (o .args .r) (o .args .x) (o .args .y) (o .pre .1) (down-all _ _ _ _ _ (c .before .loop .inv) (c .loop-test .left))
+    let o = start (c .before) in
+    unbeaten (o .args .resp .now) (o .pre .0) (o .pre .1) (c .before .loop .inv) (c .loop-test .left)
 
 pub is-local-max-spec : {M : Type 1} → statement M
 is-local-max-spec =
@@ -60,25 +98,18 @@ is-local-max-spec =
     (tie.spec
     Inv-loop
     μ-loop
-    (λ c κs. omega arith)
+    near-beats-requires
     returns
-    (λ c. omega arith)
-    (λ c. omega arith)
-    (λ c. omega arith)
-    (λ c. omega arith)
-    (λ c. omega arith)
-    (λ c. omega arith)
-    (λ c. down-none _ _ _ _ _ (omega arith) (any-none _))
-    (λ c. omega (arith, row c))
-    (λ c. omega (arith, row c))
-    (λ c. omega (arith, row c))
-    (λ c. omega (arith, row c))
-    (λ c. omega (arith, row c))
-    (λ c. omega (arith, row c))
-    (λ c. omega (arith, row c))
-    (λ c κs. omega arith)
+    add-n
+    add-n-2
+    sub-ay
+    add-ey
+    add-ey-2
+    loop-holds
+    row-part-requires
+    next-above-requires
     returns-2
-    (λ c. omega arith)
-    (λ c. omega arith)
+    add-yy
+    loop-less
     loop-again
     returns-3)

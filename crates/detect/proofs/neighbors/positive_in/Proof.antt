@@ -1,9 +1,9 @@
 -- `detect::neighbors::positive_in` meets its contract. The invariant counts the entries passed. Assumes nothing.
 use mathlib.Core.Path.{_≡_}
 use Prim.Native.Nat.{_-_, _≤_}
-use native.Mathlib.Omega.{arith}
 use lib.ListN.{length}
 use mathlib.Core.Logic.{inl, inr}
+use native.Mathlib.Omega.{arith}
 use Rattle.float.specs.Values.{f0}
 use Rattle.grid.specs.Each.{count}
 use Rattle.grid.proofs.Each.{count-none, count-yes, count-no}
@@ -18,6 +18,24 @@ Inv-loop part e n₀ i₀ n i = (i ≤ e) × (n ≤ i) × (n ≡ count (over f0 
 
 abbrev μ-loop : tie.MeasureT-loop
 μ-loop part e n₀ i₀ n i = e - i
+
+loop-holds : tie.Need-loop-holds Inv-loop μ-loop
+loop-holds c = (omega arith, omega arith, rw range-none (count-none _))
+
+mul-if1 : tie.Need-mul-if1 Inv-loop μ-loop
+mul-if1 c = omega arith
+
+shared-slice-read-if1 : tie.Need-shared-slice-read-if1 Inv-loop μ-loop
+shared-slice-read-if1 c = omega arith
+
+add-n : tie.Need-add-n Inv-loop μ-loop
+add-n c = omega arith
+
+add-i : tie.Need-add-i Inv-loop μ-loop
+add-i c = omega arith
+
+loop-less : tie.Need-loop-less Inv-loop μ-loop
+loop-less c = omega arith
 
 loop-again : tie.Need-loop-again Inv-loop μ-loop
 loop-again c =
@@ -42,11 +60,11 @@ positive-in-spec =
     (tie.spec
     Inv-loop
     μ-loop
-    (λ c. (omega arith, omega arith, rw range-none (count-none _)))
-    (λ c. omega arith)
-    (λ c. omega arith)
-    (λ c. omega arith)
-    (λ c. omega arith)
-    (λ c. omega arith)
+    loop-holds
+    mul-if1
+    shared-slice-read-if1
+    add-n
+    add-i
+    loop-less
     loop-again
     returns)

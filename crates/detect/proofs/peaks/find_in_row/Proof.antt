@@ -1,6 +1,6 @@
--- `detect::peaks::find_in_row` meets its contract. The invariant is `Scanned`: what the row has, up to the place where the search stands. Assumes nothing.
-use mathlib.Core.Path.{_≡_, refl, sym, ap, _∙_}
-use Prim.Native.Nat.{_+_, _-_, _*_, _≤_, _<_}
+-- `detect::peaks::find_in_row` meets its contract. The invariant is `Scanned`: what the row has, up to the place where the search stands.
+-- Assumes nothing.
+use Prim.Native.Nat.{_-_}
 use native.Mathlib.Omega.{arith}
 use mathlib.Core.Logic.{inl, inr}
 use lib.ListN.{length}
@@ -15,51 +15,71 @@ use Rattle.detect.proofs.peaks.find_in_row.Statement.{statement}
 use Rattle.detect.proofs.peaks.find_in_row.Tie as tie
 
 abbrev Inv-loop : tie.InvT-loop
-Inv-loop resp image w h params t floor y n list₀ room b ex a e row r count₀ x₀ list count x =
-    Scanned params floor w h (value resp w) (pixel image w) y list₀ n list count x
+Inv-loop resp image scan y n list₀ b ex count₀ x₀ list count x = Scanned scan resp image y list₀ n list count x
 
 abbrev μ-loop : tie.MeasureT-loop
-μ-loop resp image w h params t floor y n list₀ room b ex a e row r count₀ x₀ list count x = ex - x
+μ-loop resp image scan y n list₀ b ex count₀ x₀ list count x = ex - x
 
--- row y ends within the map
-fits : (c : tie.Start Inv-loop μ-loop) → c .args .y * c .args .w + c .args .w ≤ length (c .args .resp .now)
-fits c =
-    let b : c .args .y < c .args .h = omega arith in
-    omega (arith, row-in (c .args .w) b)
+-- from the border back to the start
+abbrev start : tie.After-border Inv-loop μ-loop → tie.Start Inv-loop μ-loop
+start c = c .before .before .before .before
 
--- and has w places
-long : (c : tie.Start Inv-loop μ-loop) → length (rowPart (c .args .resp .now) (c .args .w) (c .args .y)) ≡ c .args .w
-long c = row-length (c .args .resp .now) (c .args .w) (c .args .y) (fits c)
+-- from the loop back to the border
+abbrev bordered : tie.At-loop Inv-loop μ-loop → tie.After-border Inv-loop μ-loop
+bordered c = c .before .before .before
+
+-- a turn: its test, from the candidate that was judged, and from where the search went on
+abbrev turn : tie.After-list-if-kept Inv-loop μ-loop → tie.In-loop Inv-loop μ-loop
+turn c = c .before .before
+
+abbrev judged : tie.After-next-in-row2 Inv-loop μ-loop → tie.After-list-if-kept Inv-loop μ-loop
+judged c = c .before .before .before
+
+border-requires : tie.Need-border-requires Inv-loop μ-loop
+border-requires c κs = search needs
+
+sub-ex : tie.Need-sub-ex Inv-loop μ-loop
+sub-ex c = omega arith
+
+next-in-row-requires : tie.Need-next-in-row-requires Inv-loop μ-loop
+next-in-row-requires c κs = omega arith
 
 loop-holds : tie.Need-loop-holds Inv-loop μ-loop
 loop-holds c =
-    let o = c .before .before .before .before .before .before .before in
-    let b = c .before .before .before .border in
-    run-over (o .args .resp .now) (o .args .w) (o .args .y) (fits o) (scan-none _ _ _ _ _ _ _ _ _ (o .pre .wider) (o .pre .above) (o .pre .below)) (b .ensures) (ap (λ n. o .args .w - n) (b .ensures)) (c .next-candidate .ensures)
+    let b = c .before .before in
+    scan-on (start b .pre) (b .border .ensures) (scan-none (start b .pre) (b .border .ensures)) (c .next-in-row .ensures)
 
--- the place is a candidate
-candidate : (c : tie.In-loop Inv-loop μ-loop) → Candidate (c .before .before .before .before .before .before .before .before .before .args .params) (c .before .before .before .before .before .before .before .before .before .args .t) (c .before .before .before .before .before .before .before .before .before .args .w) (c .before .before .before .before .before .before .before .before .before .args .h) (c .before .loop .x) (c .before .before .before .before .before .before .before .before .before .args .y) (length (c .before .before .before .before .before .before .before .before .before .args .resp .now)) (length (c .before .before .before .before .before .before .before .before .before .args .image .now))
-candidate c = record { judging = c .before .before .before .before .before .before .before .before .before .pre .judging; left = omega arith; right = omega arith; above = omega arith; below = omega arith }
+list-if-kept-requires : tie.Need-list-if-kept-requires Inv-loop μ-loop
+list-if-kept-requires c κs =
+    let t = c .before in
+    let b = bordered (t .before) in
+    candidate (start b .pre) (b .border .ensures) (t .before .loop .inv) (t .loop-test .taken)
 
--- a turn, before the search goes on
-turned : (c : tie.After-next-candidate2 Inv-loop μ-loop) → Scanned (c .before .before .before .before .before .before .before .before .before .before .before .before .before .args .params) (c .before .before .before .before .before .before .before .before .before .before .before .before .before .args .floor) (c .before .before .before .before .before .before .before .before .before .before .before .before .before .args .w) (c .before .before .before .before .before .before .before .before .before .before .before .before .before .args .h) (value (c .before .before .before .before .before .before .before .before .before .before .before .before .before .args .resp .now) (c .before .before .before .before .before .before .before .before .before .before .before .before .before .args .w)) (pixel (c .before .before .before .before .before .before .before .before .before .before .before .before .before .args .image .now) (c .before .before .before .before .before .before .before .before .before .before .before .before .before .args .w)) (c .before .before .before .before .before .before .before .before .before .before .before .before .before .args .y) (c .before .before .before .before .before .before .before .before .before .before .before .before .before .args .list .now) (c .before .before .before .before .before .before .before .before .before .before .before .before .before .args .n) (c .before .if1 .list) (c .before .if1 .count) (c .before .before .before .before .before .loop .x + 1)
-turned c =
-    let o = c .before .before .before .before .before .before .before .before .before .before .before .before .before in
-    let l = c .before .before .before .before .before .loop in
-    let e = ap isKept (sym (c .before .before .before .judge-at .ensures)) ∙ sym (c .before .before .is-kept .ensures) in
-    let u : l .x < o .args .w - borderOf (o .args .params) = omega arith in
-    elim (c .before .if1 .came) [
-      | inl k ↦ elim (k .1 .came) [
-        | inl j ↦ turn-put (l .inv) u (e ∙ k .0 .taken) (j .0 .taken) (k .2 ∙ j .5 ∙ j .2 .ensures) (k .3)
-        | inr j ↦ turn-full (l .inv) u (e ∙ k .0 .taken) (j .0 .left) (k .2 ∙ j .1) (k .3)
-      ]
-      | inr k ↦ turn-no (l .inv) u (e ∙ k .0 .left) (k .1) (k .2)
-    ]
+add-next-in-row : tie.Need-add-next-in-row Inv-loop μ-loop
+add-next-in-row c = omega arith
+
+next-in-row-requires-2 : tie.Need-next-in-row-requires-2 Inv-loop μ-loop
+next-in-row-requires-2 c κs = omega arith
+
+loop-less : tie.Need-loop-less Inv-loop μ-loop
+loop-less c = nearer _ _ _ (turn (judged c) .loop-test .taken) (c .next-in-row2 .ensures .least)
 
 loop-again : tie.Need-loop-again Inv-loop μ-loop
 loop-again c =
-    let o = c .before .before .before .before .before .before .before .before .before .before .before .before .before in
-    run-over (o .args .resp .now) (o .args .w) (o .args .y) (fits o) (turned c) refl (ap (λ n. o .args .w - n) (c .before .before .before .before .before .before .before .before .before .border .ensures)) (c .next-candidate2 .ensures)
+    let k = judged c in
+    let t = turn k in
+    let b = bordered (t .before) in
+    scan-on (start b .pre) (b .border .ensures)
+    (scan-turn (start b .pre) (b .border .ensures) (t .before .loop .inv) (t .loop-test .taken) (k .list-if-kept .ensures))
+    (c .next-in-row2 .ensures)
+
+same-length : tie.Need-same-length Inv-loop μ-loop
+same-length c = c .before .loop .inv .across .holds .same
+
+returns : tie.Need-returns Inv-loop μ-loop
+returns c =
+    let b = bordered (c .before) in
+    scan-all (start b .pre) (b .border .ensures) (c .before .loop .inv) (c .loop-test .left)
 
 pub find-in-row-spec : {M : Type 1} → statement M
 find-in-row-spec =
@@ -67,24 +87,14 @@ find-in-row-spec =
     (tie.spec
     Inv-loop
     μ-loop
-    (λ c κs. tt)
-    (λ c. omega (arith, fits (c .before .before .before .before)))
-    (λ c. omega (arith, fits (c .before .before .before .before)))
-    (λ c. omega (arith, fits (c .before .before .before .before)))
-    (λ c. omega (arith, fits (c .before .before .before .before)))
-    (λ c. omega (arith, fits (c .before .before .before .before)))
-    (λ c. omega (arith, fits (c .before .before .before .before)))
-    (λ c. omega (arith, fits (c .before .before .before .before)))
-    (λ c. search needs)
-    (λ c κs. omega (arith, long (c .before .before .before .before .before .before)))
+    border-requires
+    sub-ex
+    next-in-row-requires
     loop-holds
-    (λ c κs. candidate c)
-    (λ c κs. tt)
-    (λ c κs. (near-room (candidate (c .before .before .before .before .before)), rw (c .before .before .before .before .before .before .loop .inv .across .holds .same) (c .before .if2 .taken)))
-    (λ c. omega arith)
-    (λ c. omega arith)
-    (λ c κs. omega (arith, long (c .before .before .before .before .before .before .before .before .before .before .before .before)))
-    (λ c. nearer _ _ _ (c .before .before .before .before .loop-test .taken) (c .next-candidate2 .ensures .least))
+    list-if-kept-requires
+    add-next-in-row
+    next-in-row-requires-2
+    loop-less
     loop-again
-    (λ c. c .before .loop .inv .across .holds .same)
-    (λ c. scan-all (c .before .loop .inv) (omega arith)))
+    same-length
+    returns)

@@ -1,45 +1,71 @@
 -- `detect::peaks::find_peaks` meets its contract. The invariant is `FoundTo`: what is found in the rows above. Assumes nothing.
-use mathlib.Core.Path.{sym, ap, _∙_}
 use Prim.Native.Nat.{_-_}
-use native.Mathlib.Omega.{arith}
 use mathlib.Core.Logic.{inl, inr}
-use lib.Seq.{length-take-le}
-use Rattle.grid.specs.Ways.{pixel}
-use Rattle.detect.specs.Saddle.{saddleOf}
-use Rattle.detect.specs.Window.{value}
-use Rattle.detect.proofs.Scanning.{FoundTo, found-none, found-more, found-all, none-found, floor-is}
+use native.Mathlib.Omega.{arith}
+use Rattle.detect.proofs.Scanning.{FoundTo, found-none, found-more, found-all, none-found, finding}
+use borrow.Author.Needs.{needs}
 use Rattle.detect.proofs.peaks.find_peaks.Statement.{statement}
 use Rattle.detect.proofs.peaks.find_peaks.Tie as tie
 
 abbrev Inv-loop : tie.InvT-loop
-Inv-loop resp image w h params list₀ b all floor k t ey count₀ y₀ list count y = FoundTo params floor w h (value resp w) (pixel image w) list₀ list count y
+Inv-loop resp image scan list₀ b w h ey count₀ y₀ list count y = FoundTo scan resp image list₀ list count y
 
 abbrev μ-loop : tie.MeasureT-loop
-μ-loop resp image w h params list₀ b all floor k t ey count₀ y₀ list count y = ey - y
+μ-loop resp image scan list₀ b w h ey count₀ y₀ list count y = ey - y
+
+-- from the border back to the start
+abbrev start : tie.After-border Inv-loop μ-loop → tie.Start Inv-loop μ-loop
+start c = c .before .before .before .before
+
+-- from the loop back to the border
+abbrev bordered : tie.At-loop Inv-loop μ-loop → tie.After-border Inv-loop μ-loop
+bordered c = c .before .before .before
+
+border-requires : tie.Need-border-requires Inv-loop μ-loop
+border-requires c κs = search needs
+
+mul-if1 : tie.Need-mul-if1 Inv-loop μ-loop
+mul-if1 c = omega arith
+
+returns : tie.Need-returns Inv-loop μ-loop
+returns c = none-found (c .before .border .ensures) (inl (c .if1 .taken))
+
+mul-if2 : tie.Need-mul-if2 Inv-loop μ-loop
+mul-if2 c = omega arith
+
+returns-2 : tie.Need-returns-2 Inv-loop μ-loop
+returns-2 c = none-found (c .before .before .border .ensures) (inr (c .if2 .taken))
+
+sub-ey : tie.Need-sub-ey Inv-loop μ-loop
+sub-ey c = omega arith
+
+loop-holds : tie.Need-loop-holds Inv-loop μ-loop
+loop-holds c = found-none (c .before .before .border .ensures) (omega arith)
 
 find-in-row-requires : tie.Need-find-in-row-requires Inv-loop μ-loop
 find-in-row-requires c κs =
-    let o = c .before .before .before .before .before .before .before .before .before .before .before .before .before .before in
-    record {
-      judging = record {
-        wide = o .pre .wide;
-        high = o .pre .high;
-        ray = o .pre .ray;
-        suppression = o .pre .suppression;
-        test = c .before .before .before .new .ensures ∙ ap saddleOf (c .before .before .before .before .ray-radius-clamped .ensures);
-        response = o .pre .response;
-        working = o .pre .working;
-      };
-      wider = omega arith;
-      above = omega arith;
-      below = omega arith;
-      few = omega arith;
-    }
+    let l = c .before .before in
+    finding (l .loop .inv) (start (bordered l) .pre .0) (omega arith) (omega arith)
+
+add-y : tie.Need-add-y Inv-loop μ-loop
+add-y c = omega arith
+
+loop-less : tie.Need-loop-less Inv-loop μ-loop
+loop-less c = omega arith
+
+loop-again : tie.Need-loop-again Inv-loop μ-loop
+loop-again c =
+    let r = c .before .before in
+    let l = r .before .before .before in
+    found-more (l .loop .inv) (start (bordered l) .pre .0 .asked .wide) (omega arith) (r .find-in-row .ensures)
+
+same-length : tie.Need-same-length Inv-loop μ-loop
+same-length c = c .before .loop .inv .down .holds .long
 
 returns-3 : tie.Need-returns-3 Inv-loop μ-loop
 returns-3 c =
-    let o = c .before .before .before .before .before .before .before .before .before .before .before .before .before in
-    found-all (c .before .loop .inv) (omega arith) (floor-is (o .args .params) (o .args .resp .now) (o .args .w) (o .args .h) (o .pre .response) (c .before .before .before .before .before .max-response .ensures))
+    let l = c .before in
+    found-all (l .loop .inv) (omega arith) (start (bordered l) .pre .1)
 
 pub find-peaks-spec : {M : Type 1} → statement M
 find-peaks-spec =
@@ -47,22 +73,16 @@ find-peaks-spec =
     (tie.spec
     Inv-loop
     μ-loop
-    (λ c κs. tt)
-    (λ c. omega arith)
-    (λ c. none-found _ _ _ _ _ _ (inl (omega arith)))
-    (λ c. omega arith)
-    (λ c. none-found _ _ _ _ _ _ (inr (omega arith)))
-    (λ c. omega arith)
-    (λ c. sym (length-take-le _ (c .before .before .before .before .before .before .before .args .resp .now) (c .before .before .before .before .before .before .before .pre .response)))
-    (λ c κs. tt)
-    (λ c κs. tt)
-    (λ c. omega arith)
-    (λ c κs. omega arith)
-    (λ c. omega arith)
-    (λ c. found-none _ _ _ _ _ _ _ (c .before .before .before .before .before .before .before .border .ensures) (omega arith))
+    border-requires
+    mul-if1
+    returns
+    mul-if2
+    returns-2
+    sub-ey
+    loop-holds
     find-in-row-requires
-    (λ c. omega arith)
-    (λ c. omega arith)
-    (λ c. found-more (c .before .before .before .before .before .loop .inv) (omega arith) (c .before .before .before .before .before .before .before .before .before .before .before .before .before .before .before .before .before .pre .wide) (c .before .before .find-in-row .ensures))
-    (λ c. c .before .loop .inv .down .holds .long)
+    add-y
+    loop-less
+    loop-again
+    same-length
     returns-3)

@@ -1,6 +1,5 @@
 -- `detect::peaks::store` meets its contract: three stores, one after the other. Assumes nothing.
 use Prim.Native.Nat.{_*_}
-use native.Mathlib.Omega.{arith}
 use lib.ListN.{length-set}
 use Rattle.grid.proofs.Over.{sets-three}
 use borrow.Author.Needs.{needs}

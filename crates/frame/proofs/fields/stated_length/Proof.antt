@@ -1,17 +1,9 @@
--- `frame::fields::stated_length` meets its contract. Assumes nothing.
-use Prim.Native.Nat.{ℕ, _-_}
+-- `frame::fields::stated_length` meets its contract: so many bytes follow, or it is refused. Assumes nothing.
 use borrow.Author.Needs.{needs}
-use borrow.Author.Tests.{eq-eqb, ne-eqb}
-use denote.Ref.{now}
-use lib.ListN.{length}
-use Rattle.params.specs.declared.Answer.the-variants.{StatedLength}
+use Rattle.params.specs.declared.answers.Answer.the-variants.{StatedLength}
 use Rattle.frame.proofs.Order.{refuses, holds}
 use Rattle.frame.proofs.fields.stated_length.Statement.{statement}
 use Rattle.frame.proofs.fields.stated_length.Tie as tie
-
--- the number of bytes that follow the stated length
-abbrev due : tie.After-word → ℕ
-due c = length (now (c .before .before .args .file)) - 5
 
 word-requires : tie.Need-word-requires
 word-requires c κs = search needs
@@ -23,10 +15,10 @@ sub-if1 : tie.Need-sub-if1
 sub-if1 c = search needs
 
 returns : tie.Need-returns
-returns c = refuses StatedLength _ _ (rw (← c .before .word .ensures) (ne-eqb _ (due (c .before)) (c .if1 .taken)))
+returns c = refuses StatedLength _ _ (c .before .word .ensures) (c .if1 .taken)
 
 returns-2 : tie.Need-returns-2
-returns-2 c = holds StatedLength _ _ (c .before .word .ensures) (rw (← c .before .word .ensures) (eq-eqb _ (due (c .before)) (c .if1 .left)))
+returns-2 c = holds StatedLength _ _ (c .before .word .ensures) (c .if1 .left)
 
 pub stated-length-spec : {M : Type 1} → statement M
 stated-length-spec = tie.close (tie.spec word-requires cast-if1 sub-if1 returns returns-2)

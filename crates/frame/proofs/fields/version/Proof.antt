@@ -1,7 +1,6 @@
--- `frame::fields::version` meets its contract. Assumes nothing.
+-- `frame::fields::version` meets its contract: byte 0 is 1, or it is refused. Assumes nothing.
 use borrow.Author.Needs.{needs}
-use borrow.Author.Tests.{eq-eqb, ne-eqb}
-use Rattle.params.specs.declared.Answer.the-variants.{Version}
+use Rattle.params.specs.declared.answers.Answer.the-variants.{Version}
 use Rattle.frame.proofs.Order.{refuses, holds}
 use Rattle.frame.proofs.fields.version.Statement.{statement}
 use Rattle.frame.proofs.fields.version.Tie as tie
@@ -10,10 +9,10 @@ byte-requires : tie.Need-byte-requires
 byte-requires c κs = search needs
 
 returns : tie.Need-returns
-returns c = refuses Version _ _ (rw (← c .before .byte .ensures .0) (ne-eqb _ 1 (c .if1 .taken)))
+returns c = refuses Version _ 1 (c .before .byte .ensures .0) (c .if1 .taken)
 
 returns-2 : tie.Need-returns-2
-returns-2 c = holds Version _ _ (c .before .byte .ensures .0) (rw (← c .before .byte .ensures .0) (eq-eqb _ 1 (c .if1 .left)))
+returns-2 c = holds Version _ 1 (c .before .byte .ensures .0) (c .if1 .left)
 
 pub version-spec : {M : Type 1} → statement M
 version-spec = tie.close (tie.spec byte-requires returns returns-2)

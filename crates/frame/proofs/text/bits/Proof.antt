@@ -21,8 +21,21 @@ unfolding eq toBits
 no-number nan e = refl
 no-number (inf true) e = absurd (let z : _≡_ {A = ℕ} 0 1 = cc in omega arith)
 no-number (inf false) e = absurd (let z : _≡_ {A = ℕ} 0 1 = cc in omega arith)
-no-number (fin true m d) e = absurd (let z : _≡_ {A = ℕ} 0 1 = cc (eq-eqb (m * up d * down d) (m * up d * down d) refl) in omega arith)
-no-number (fin false m d) e = absurd (let z : _≡_ {A = ℕ} 0 1 = cc (eq-eqb (m * up d * down d) (m * up d * down d) refl) in omega arith)
+no-number (fin true m d) e =
+    let k = m * up d * down d in
+    absurd (let z : _≡_ {A = ℕ} 0 1 = cc (eq-eqb k k refl) in omega arith)
+no-number (fin false m d) e =
+    let k = m * up d * down d in
+    absurd (let z : _≡_ {A = ℕ} 0 1 = cc (eq-eqb k k refl) in omega arith)
+
+float-to-bits-result : tie.Need-float-to-bits-result
+float-to-bits-result c = number _ (c .if1 .taken)
+
+returns : tie.Need-returns
+returns c = search needs
+
+returns-2 : tie.Need-returns-2
+returns-2 c = no-number _ (c .if1 .left)
 
 pub bits-spec : {M : Type 1} → statement M
-bits-spec = tie.close (tie.spec (λ c. number _ (c .if1 .taken)) (λ c. search needs) (λ c. no-number _ (c .if1 .left)))
+bits-spec = tie.close (tie.spec float-to-bits-result returns returns-2)

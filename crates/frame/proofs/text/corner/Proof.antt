@@ -1,22 +1,58 @@
--- `frame::text::corner` meets its contract: three fields, one after the other. Assumes nothing.
-use native.Mathlib.Omega.{arith}
+-- `frame::text::corner` meets its contract: three patterns of bits. Assumes nothing.
+use mathlib.Core.Path.{_≡_}
+use mathlib.Core.List.{[], _∷_}
+use Prim.Native.Nat.{ℕ}
 use borrow.Author.Needs.{needs}
-use lib.Dec.{lit≤}
-use Rattle.frame.specs.Printed.{cornerLine}
-use Rattle.frame.specs.Appended.{empty-len, grown-len, three-shown}
+use lib.Ieee.{Float, binary32, toBits}
+use Rattle.frame.specs.declared.Line.{Line}
+use Rattle.frame.specs.Printed.{numeral, row, cornerLine}
+use Rattle.frame.specs.Lines.{Shows}
 use Rattle.frame.proofs.text.corner.Statement.{statement}
 use Rattle.frame.proofs.text.corner.Tie as tie
 
-returns : tie.Need-returns
+three-words : {a b c : ℕ} (x y z : Float) {r : Line}
+    → a ≡ toBits binary32 x → b ≡ toBits binary32 y → c ≡ toBits binary32 z
+    → Shows (row (numeral 16 8 a ∷ numeral 16 8 b ∷ numeral 16 8 c ∷ [])) r → Shows (cornerLine (x ∷ y ∷ z ∷ [])) r
 unfolding cornerLine
-returns c = three-shown _ _ _ (c .before .before .before .empty .ensures) (c .before .before .word .ensures) (c .before .word2 .ensures) (c .word3 .ensures) (lit≤ tt)
+three-words x y z d e f s = rw (d, e, f) at s
+
+bits-requires : tie.Need-bits-requires
+bits-requires c κs = search needs
+
+cast-three : tie.Need-cast-three
+cast-three c = search needs
+
+bits-requires-2 : tie.Need-bits-requires-2
+bits-requires-2 c κs = search needs
+
+cast-three-2 : tie.Need-cast-three-2
+cast-three-2 c = search needs
+
+bits-requires-3 : tie.Need-bits-requires-3
+bits-requires-3 c κs = search needs
+
+cast-three-3 : tie.Need-cast-three-3
+cast-three-3 c = search needs
+
+three-requires : tie.Need-three-requires
+three-requires c κs = search needs
+
+returns : tie.Need-returns
+returns c =
+    let z = c .before in
+    let y = z .before in
+    let x = y .before in
+    three-words _ _ _ (x .bits .ensures) (y .bits2 .ensures) (z .bits3 .ensures) (c .three .ensures)
 
 pub corner-spec : {M : Type 1} → statement M
 corner-spec =
     tie.close
     (tie.spec
-    (λ c κs. search needs)
-    (λ c κs. omega (arith, empty-len (c .empty .ensures)))
-    (λ c κs. omega (arith, empty-len (c .before .empty .ensures), grown-len (c .word .ensures)))
-    (λ c κs. omega (arith, empty-len (c .before .before .empty .ensures), grown-len (c .before .word .ensures), grown-len (c .word2 .ensures)))
+    bits-requires
+    cast-three
+    bits-requires-2
+    cast-three-2
+    bits-requires-3
+    cast-three-3
+    three-requires
     returns)

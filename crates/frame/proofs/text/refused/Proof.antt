@@ -3,21 +3,33 @@ use native.Mathlib.Omega.{arith}
 use borrow.Author.Needs.{needs}
 use lib.Dec.{lit≤}
 use Rattle.frame.specs.Printed.{refusedLine, row}
-use Rattle.frame.specs.Appended.{empty-len, appended-len, grown-more, shown}
+use Rattle.frame.proofs.Appended.{empty-len, appended-len, grown, grown-more, shown}
+use Rattle.frame.proofs.Digits.{decimal-short}
 use Rattle.frame.proofs.text.refused.Statement.{statement}
 use Rattle.frame.proofs.text.refused.Tie as tie
+
+empty-requires : tie.Need-empty-requires
+empty-requires c κs = search needs
+
+slice-aggregate-append : tie.Need-slice-aggregate-append
+slice-aggregate-append c = search needs
+
+append-requires : tie.Need-append-requires
+append-requires c κs = omega (arith, empty-len (c .before .empty .ensures))
+
+field-requires : tie.Need-field-requires
+field-requires c κs =
+    let blank = empty-len (c .before .before .empty .ensures) in
+    (decimal-short _ (omega arith), omega (arith, blank, appended-len _ _ (c .append .ensures)))
 
 returns : tie.Need-returns
 unfolding refusedLine row
 returns c =
-    shown (c .before .before .before .empty .ensures) (grown-more (record { is = c .before .append .ensures; most = lit≤ {n = 8} tt }) (c .decimal .ensures)) (lit≤ tt)
+    let word = c .before in
+    let fields = grown-more (grown 8 (word .append .ensures) (lit≤ tt)) (c .field .ensures) in
+    shown (word .before .before .empty .ensures) fields (lit≤ tt)
 
 pub refused-spec : {M : Type 1} → statement M
 refused-spec =
     tie.close
-    (tie.spec
-    (λ c κs. search needs)
-    (λ c. search needs)
-    (λ c κs. omega (arith, empty-len (c .before .empty .ensures)))
-    (λ c κs. omega (arith, empty-len (c .before .before .empty .ensures), appended-len _ _ (c .append .ensures)))
-    returns)
+    (tie.spec empty-requires slice-aggregate-append append-requires field-requires returns)

@@ -3,5 +3,11 @@ use borrow.Author.Tests.{lt-ltb, le-ltb}
 use Rattle.frame.proofs.text.single.Statement.{statement}
 use Rattle.frame.proofs.text.single.Tie as tie
 
+returns : tie.Need-returns
+returns c = rw (lt-ltb _ _ (c .if1 .taken))
+
+returns-2 : tie.Need-returns-2
+returns-2 c = rw (le-ltb _ _ (c .if1 .left))
+
 pub single-spec : {M : Type 1} → statement M
-single-spec = tie.close (tie.spec (λ c. rw (lt-ltb _ _ (c .if1 .taken))) (λ c. rw (le-ltb _ _ (c .if1 .left))))
+single-spec = tie.close (tie.spec returns returns-2)

@@ -12,10 +12,16 @@ as-written : (d : ℕ) (y : Float) → y ≡ ofInt binary32 (pos d) → div bina
 unfolding floatOf ofBits
 as-written d y e = ap (λ (z : Float). div binary32 z (ofBits binary32 0x4d00_0000)) e
 
+cast-nearest-u32-to-f32 : tie.Need-cast-nearest-u32-to-f32
+cast-nearest-u32-to-f32 c = search needs
+
+nearest-u32-to-f32-requires : tie.Need-nearest-u32-to-f32-requires
+nearest-u32-to-f32-requires c κs = search needs
+
+returns : tie.Need-returns
+returns c = as-written (c .before .args .d) (c .nearest-u32-to-f32 .result) (c .nearest-u32-to-f32 .ensures)
+
 pub float-of-spec : {M : Type 1} → statement M
 float-of-spec =
     tie.close
-    (tie.spec
-    (λ c. search needs)
-    (λ c κs. search needs)
-    (λ c. as-written (c .before .args .d) (c .nearest-u32-to-f32 .result) (c .nearest-u32-to-f32 .ensures)))
+    (tie.spec cast-nearest-u32-to-f32 nearest-u32-to-f32-requires returns)

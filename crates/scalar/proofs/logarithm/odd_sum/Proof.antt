@@ -20,24 +20,37 @@ none : (z : ℕ) → (z ≡ cutPower z 0) × (0 ≡ cutSum z 0)
 unfolding cutPower cutSum
 none z = (refl, refl)
 
-pub odd-sum-spec : {M : Type 1} → statement M
-odd-sum-spec =
-    tie.close
-    (tie.spec
-    Inv-loop
-    μ-loop
-    (λ c. record { fits = product-fits (c .args .z) (c .args .z) (c .pre) (c .pre) })
-    (λ c. (omega arith, none (c .args .z) .0, none (c .args .z) .1, c .pre, omega arith))
-    (λ c. omega arith)
-    (λ c. omega arith)
-    (λ c. omega arith)
-    (λ c. omega (arith, div-le-self (c .before .loop .p) (2 * c .before .loop .j + 1)))
-    (λ c.
+mul-w : tie.Need-mul-w Inv-loop μ-loop
+mul-w c = record { fits = product-fits (c .args .z) (c .args .z) (c .pre) (c .pre) }
+
+loop-holds : tie.Need-loop-holds Inv-loop μ-loop
+loop-holds c = (omega arith, none (c .args .z) .0, none (c .args .z) .1, c .pre, omega arith)
+
+mul-sum : tie.Need-mul-sum Inv-loop μ-loop
+mul-sum c = omega arith
+
+add-sum : tie.Need-add-sum Inv-loop μ-loop
+add-sum c = omega arith
+
+div-sum : tie.Need-div-sum Inv-loop μ-loop
+div-sum c = omega arith
+
+add-sum-2 : tie.Need-add-sum-2 Inv-loop μ-loop
+add-sum-2 c = omega (arith, div-le-self (c .before .loop .p) (2 * c .before .loop .j + 1))
+
+mul-p : tie.Need-mul-p Inv-loop μ-loop
+mul-p c =
     let z = c .before .before .args .z in
-    record { fits = product-fits (c .before .loop .p) (z * z / unit) (c .before .loop .inv .3) (omega (arith, square-le z (c .before .before .pre))) })
-    (λ c. omega arith)
-    (λ c. omega arith)
-    (λ c.
+    record { fits = product-fits (c .before .loop .p) (z * z / unit) (c .before .loop .inv .3) (omega (arith, square-le z (c .before .before .pre))) }
+
+add-j : tie.Need-add-j Inv-loop μ-loop
+add-j c = omega arith
+
+loop-less : tie.Need-loop-less Inv-loop μ-loop
+loop-less c = omega arith
+
+loop-again : tie.Need-loop-again Inv-loop μ-loop
+loop-again c =
     let z = c .before .before .args .z in
     let l = c .before .loop in
     let s = step-le (l .p) (z * z / unit) (l .inv .3) (square-le z (c .before .before .pre)) in (
@@ -46,8 +59,16 @@ odd-sum-spec =
       sum-step z (l .p) (l .sum) (l .j) (l .inv .2) (l .inv .1),
       omega (arith, s),
       omega (arith, s, div-le-self (l .p) (2 * l .j + 1)),
-    ))
-    (λ c.
+    )
+
+returns : tie.Need-returns Inv-loop μ-loop
+returns c =
     let l = c .before .loop in
     let all : l .j ≡ terms = omega arith in
-    (l .inv .2 ∙ ap (cutSum (c .before .before .args .z)) all, omega arith)))
+    (l .inv .2 ∙ ap (cutSum (c .before .before .args .z)) all, omega arith)
+
+pub odd-sum-spec : {M : Type 1} → statement M
+odd-sum-spec =
+    tie.close
+    (tie.spec Inv-loop μ-loop mul-w loop-holds mul-sum add-sum div-sum add-sum-2 mul-p add-j loop-less loop-again
+    returns)

@@ -4,13 +4,31 @@ use Rattle.scalar.proofs.Squares.{rounds-down, rounds-up}
 use Rattle.scalar.proofs.square_root.nearest_root.Statement.{statement}
 use Rattle.scalar.proofs.square_root.nearest_root.Tie as tie
 
+whole-root-requires : tie.Need-whole-root-requires
+whole-root-requires c κs = search needs
+
+mul-if1 : tie.Need-mul-if1
+mul-if1 c = search needs
+
+sub-if1 : tie.Need-sub-if1
+sub-if1 c = search needs
+
+add-result : tie.Need-add-result
+add-result c = search needs
+
+returns : tie.Need-returns
+returns c =
+    let a =
+    c .before .before in rounds-down (a .args .n) (c .before .whole-root .result) (a .pre .0) (a .pre .1)
+    (c .before .whole-root .ensures) (c .if1 .taken)
+
+returns-2 : tie.Need-returns-2
+returns-2 c =
+    let a =
+    c .before .before in rounds-up (a .args .n) (c .before .whole-root .result) (a .pre .0) (a .pre .1)
+    (c .before .whole-root .ensures) (c .if1 .left)
+
 pub nearest-root-spec : {M : Type 1} → statement M
 nearest-root-spec =
     tie.close
-    (tie.spec
-    (λ c κs. search needs)
-    (λ c. search needs)
-    (λ c. search needs)
-    (λ c. search needs)
-    (λ c. let a = c .before .before in rounds-down (a .args .n) (c .before .whole-root .result) (a .pre .0) (a .pre .1) (c .before .whole-root .ensures) (c .if1 .taken))
-    (λ c. let a = c .before .before in rounds-up (a .args .n) (c .before .whole-root .result) (a .pre .0) (a .pre .1) (c .before .whole-root .ensures) (c .if1 .left)))
+    (tie.spec whole-root-requires mul-if1 sub-if1 add-result returns returns-2)

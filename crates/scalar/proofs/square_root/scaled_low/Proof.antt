@@ -14,27 +14,41 @@ Inv-loop b n₀ h₀ n h =
 abbrev μ-loop : tie.MeasureT-loop
 μ-loop b n₀ h₀ n h = 281474976710656 - n
 
-pub scaled-low-spec : {M : Type 1} → statement M
-scaled-low-spec =
-    tie.close
-    (tie.spec
-    Inv-loop
-    μ-loop
-    (λ c. omega arith)
-    (λ c. (low-start (c .args .b), omega arith, omega arith, omega arith, omega arith))
-    (λ c. omega arith)
-    (λ c. low-pos (c .before .before .args .b) (c .before .loop .n) (c .before .loop .h) (c .before .loop .inv .0) (omega arith) (c .loop-test .taken))
-    (λ c. omega arith)
-    (λ c. (
-      low-step (c .before .before .args .b) (c .before .loop .n) (c .before .loop .h) (c .before .loop .inv .0) (omega arith) (c .loop-test .taken),
-      omega arith,
-      omega arith,
-      omega arith,
-      omega arith,
-    ))
-    (λ c. record {
+mul-n : tie.Need-mul-n Inv-loop μ-loop
+mul-n c = omega arith
+
+loop-holds : tie.Need-loop-holds Inv-loop μ-loop
+loop-holds c = (low-start (c .args .b), omega arith, omega arith, omega arith, omega arith)
+
+mul-n-2 : tie.Need-mul-n-2 Inv-loop μ-loop
+mul-n-2 c = omega arith
+
+sub-h : tie.Need-sub-h Inv-loop μ-loop
+sub-h c =
+    low-pos (c .before .before .args .b) (c .before .loop .n) (c .before .loop .h) (c .before .loop .inv .0) (omega arith) (c .loop-test .taken)
+
+loop-less : tie.Need-loop-less Inv-loop μ-loop
+loop-less c = omega arith
+
+loop-again : tie.Need-loop-again Inv-loop μ-loop
+loop-again c = (
+  low-step (c .before .before .args .b) (c .before .loop .n) (c .before .loop .h) (c .before .loop .inv .0) (omega arith) (c .loop-test .taken),
+  omega arith,
+  omega arith,
+  omega arith,
+  omega arith,
+)
+
+returns : tie.Need-returns Inv-loop μ-loop
+returns c =
+    record {
       same = low-val (c .before .before .args .b) (c .before .loop .n) (c .before .loop .h) (c .before .before .pre .1) (c .before .loop .inv .0);
       least = omega arith;
       most = omega arith;
       small = omega arith;
-    }))
+    }
+
+pub scaled-low-spec : {M : Type 1} → statement M
+scaled-low-spec =
+    tie.close
+    (tie.spec Inv-loop μ-loop mul-n loop-holds mul-n-2 sub-h loop-less loop-again returns)

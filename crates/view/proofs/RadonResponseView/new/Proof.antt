@@ -36,7 +36,8 @@ use Rattle.view.proofs.RadonResponseView.new.Key.{name}
 use Rattle.view.proofs.RadonResponseView.new.Statement as stated
 use Rattle.view.proofs.RadonResponseView.new.Code as code
 
-module _ {M : Type 1} (𝓤 : URA M) (H : Heap 𝓤) (A : Atoms 𝓤) (W : Given 𝓤 H A) (mem : Memory → SProp 𝓤) (run : Routine → Fun 𝓤) (κ : Lft) (q : Share) (s : RefT (List Float)) (t : RefT (List ℕ)) (w h : ℕ) where
+module _ {M : Type 1} (𝓤 : URA M) (H : Heap 𝓤) (A : Atoms 𝓤) (W : Given 𝓤 H A) (mem : Memory → SProp 𝓤) (run : Routine → Fun 𝓤)
+    (κ : Lft) (q : Share) (s : RefT (List Float)) (t : RefT (List ℕ)) (w h : ℕ) where
   abbrev d : RadonResponseView
   d = viewOf s t w h
 
@@ -70,17 +71,26 @@ module _ {M : Type 1} (𝓤 : URA M) (H : Heap 𝓤) (A : Atoms 𝓤) (W : Given
         qed W (raw Entry ∷ []) ∵ enter ! C Λ code.function (lent s ∷ lent t ∷ vint w64 w ∷ vint w64 h ∷ []) _ $
         alloc1 ! (λ l₀. alloc1 ! (λ l₁. alloc1 ! (λ l₂. alloc1 ! (λ l₃. alloc1 ! (λ l₄. alloc0 ! $ params1 ! $
         -- [_4; …; _3; …; _2; …; _1; …; _0; …; what was passed]
-        pass1 ! (init ! 6 refl ts) $ pass1 ! (init ! 4 refl tt′) $ pass1 ! (init ! 2 refl (tt, record { fits = fw })) $ pass1 ! (init ! 0 refl (tt, record { fits = fh })) $ pass0 ! $
-        assigns ! (agg ! (and-then ! (load ! (from ! (stop !)) (look ! 6 refl)) (and-then ! (load ! (from ! (stop !)) (look ! 4 refl)) (and-then ! (load ! (from ! (stop !)) (look ! 2 refl)) (and-then ! (load ! (from ! (stop !)) (look ! 0 refl)) (no-more !))))))
+        pass1 ! (init ! 6 refl ts) $ pass1 ! (init ! 4 refl tt′) $ pass1 ! (init ! 2 refl (tt, record { fits = fw })) $
+        pass1 ! (init ! 0 refl (tt, record { fits = fh })) $ pass0 ! $
+        assigns !
+        (agg !
+        (and-then ! (load ! (from ! (stop !)) (look ! 6 refl))
+        (and-then ! (load ! (from ! (stop !)) (look ! 4 refl))
+        (and-then ! (load ! (from ! (stop !)) (look ! 2 refl))
+        (and-then ! (load ! (from ! (stop !)) (look ! 0 refl)) (no-more !))))))
         (from ! (stop !)) (init ! 8 refl (tt, (ts .1, (tt′ .1, (record { fits = fw }, (record { fits = fh }, tt)))))) $
         returns ! (look ! 8 refl) $ forget ! 0 refl $ forget ! 2 refl $ forget ! 4 refl $ forget ! 6 refl $ forget ! 8 refl $
-        move ! (8 ∷ 9 ∷ []) $ free1 ! $ move ! (6 ∷ 7 ∷ []) $ free1 ! $ move ! (4 ∷ 5 ∷ []) $ free1 ! $ move ! (2 ∷ 3 ∷ []) $ free1 ! $ free1 ! $ free0 ! $ by ! finish)))))
+        move ! (8 ∷ 9 ∷ []) $ free1 ! $ move ! (6 ∷ 7 ∷ []) $ free1 ! $ move ! (4 ∷ 5 ∷ []) $ free1 ! $ move ! (2 ∷ 3 ∷ []) $
+        free1 ! $ free1 ! $ free0 ! $ by ! finish)))))
 
 pub new-spec : {M : Type 1} → stated.statement M
 unfolding code.routine
 new-spec 𝓤 H 𝓜 𝓖 𝓡 =
-    met 𝓤 H 𝓜 𝓖 𝓡 code.env new.ended (new.clauses 𝓤 H (𝓖 .A) (𝓜 .mem) (𝓡 .run)) name code.function (λ κs. (slice-vals, (slice-vals, (uint-vals w64, (uint-vals w64, tt)))))
-    (λ κs. (shr-slice-tells (named 0) (κs .0) f32, (shr-slice-tells (named 0) (κs .0) u8, (uint-tells w64, (uint-tells w64, tt))))) (code.unfolded 𝓤 H 𝓜 𝓡)
+    met 𝓤 H 𝓜 𝓖 𝓡 code.env new.ended (new.clauses 𝓤 H (𝓖 .A) (𝓜 .mem) (𝓡 .run)) name code.function
+    (λ κs. (slice-vals, (slice-vals, (uint-vals w64, (uint-vals w64, tt)))))
+    (λ κs. (shr-slice-tells (named 0) (κs .0) f32, (shr-slice-tells (named 0) (κs .0) u8, (uint-tells w64, (uint-tells w64, tt)))))
+    (code.unfolded 𝓤 H 𝓜 𝓡)
     ((λ κs x f. refl), ((λ κs x f. refl), ((λ κs x f. refl), ((λ κs x f. refl), tt)))) (λ _ κs qs bounds a g are. via 𝓤 _ (fst∗ 𝓤 _ (emp 𝓤))
     (walk 𝓤 H (𝓖 .A) (givenOf 𝓤 H 𝓜 𝓖) (𝓜 .mem) (𝓡 .run) (κs .0) (qs .0) (a .0) (a .1 .0) (a .1 .1 .0) (a .1 .1 .1 .0)
     (tables 𝓤 H 𝓜 𝓡 code.env .C) (tables 𝓤 H 𝓜 𝓡 code.env .Λ) (are .0) (are .1 .0) (are .1 .1 .0 .1) (are .1 .1 .1 .0 .1)))

@@ -20,7 +20,8 @@ use contract.Monad.{Fun}
 use contract.Running.{givenOf, tables}
 use types.Kit.{Given, ‵, raw, _$_, _∵_, !, qed, by, move, use1}
 use types.Part.{whole, sub, look-in}
-use types.Run.{look, init, forget, stop, fld, from, load, of-opd, and-then, no-more, assigns, land, returns, enter, alloc1, alloc0, params1, pass1, pass0, free1, free0}
+use types.Run.{look, init, forget, stop, fld, from, load, of-opd, and-then, no-more, assigns, land, returns, enter, alloc1, alloc0}
+use types.Run.{params1, pass1, pass0, free1, free0}
 use sound.WpLaws.{FmC}
 use denote.RattleType.{owns}
 use denote.Plain.{uint-vals, uint-tells}
@@ -50,7 +51,8 @@ module _ {M : Type 1} (𝓤 : URA M) (H : Heap 𝓤) (A : Atoms 𝓤) (mem : Mem
   abbrev Called : Contract 𝓤
   Called = tripleOf 𝓤 H A callee.signature (callee.spec 𝓤 H A mem run)
 
-module _ {M : Type 1} (𝓤 : URA M) (H : Heap 𝓤) (A : Atoms 𝓤) (W : Given 𝓤 H A) (mem : Memory → SProp 𝓤) (run : Routine → Fun 𝓤) (κ : Lft) (q : Share) (d : RadonResponseView) (y : ℕ) where
+module _ {M : Type 1} (𝓤 : URA M) (H : Heap 𝓤) (A : Atoms 𝓤) (W : Given 𝓤 H A) (mem : Memory → SProp 𝓤) (run : Routine → Fun 𝓤)
+    (κ : Lft) (q : Share) (d : RadonResponseView) (y : ℕ) where
   abbrev z : walkOf 𝓤 H A row.ended (gone row.ended) (row.clauses 𝓤 H A mem run) .Ghost
   z = (((κ, tt), (q, tt), tt, (d, (y, tt)), (mach d ∷ [], (vint w64 y ∷ [], tt))), tt)
 
@@ -80,20 +82,28 @@ module _ {M : Type 1} (𝓤 : URA M) (H : Heap 𝓤) (A : Atoms 𝓤) (W : Given
   IsRow r = Row (d .«data») (now (d .image)) (d .w) (d .h) y r
 
   module _ (C : Calls 𝓤 H) (Λ : Loops 𝓤 H) (fm : FmC 𝓤 H (W .laws) C) (known : Triple 𝓤 (C callee-def.name) (Called 𝓤 H A mem run)) where
-    walk : Holds (hasTy (T′.mir (named 0)) (mach d)) × WT (mach d) → y < 2 ^ 64 → ent 𝓤 Entry (WpFn 𝓤 H C Λ code.function (mach d ∷ vint w64 y ∷ []) Post)
+    walk : Holds (hasTy (T′.mir (named 0)) (mach d)) × WT (mach d) → y < 2 ^ 64
+        → ent 𝓤 Entry (WpFn 𝓤 H C Λ code.function (mach d ∷ vint w64 y ∷ []) Post)
     walk wt fy =
         qed W (raw Entry ∷ []) ∵ enter ! C Λ code.function (mach d ∷ vint w64 y ∷ []) _ $
         alloc1 ! (λ l₀. alloc1 ! (λ l₁. alloc1 ! (λ l₂. alloc1 ! (λ l₃. alloc1 ! (λ l₄. alloc1 ! (λ l₅. alloc1 ! (λ l₆. alloc0 ! $ params1 ! $
         -- [_6; …; _5; …; _4; …; _3; …; _2; …; _1; …; _0; …; what was passed]
         pass1 ! (init ! 10 refl wt) $ pass1 ! (init ! 8 refl (tt, record { fits = fy })) $ pass0 ! $
-        assigns ! (of-opd ! (load ! (from ! (fld ! refl (stop !))) (look-in ! 10 (sub ! 0 refl (whole !))))) (from ! (stop !)) (init ! 6 refl (tt, wt .1 .0)) $
-        assigns ! (of-opd ! (load ! (from ! (fld ! refl (stop !))) (look-in ! 10 (sub ! 1 refl (whole !))))) (from ! (stop !)) (init ! 4 refl (tt, wt .1 .1 .0)) $
-        assigns ! (of-opd ! (load ! (from ! (fld ! refl (stop !))) (look-in ! 10 (sub ! 2 refl (whole !))))) (from ! (stop !)) (init ! 2 refl (tt, wt .1 .1 .1 .0)) $
-        assigns ! (of-opd ! (load ! (from ! (fld ! refl (stop !))) (look-in ! 10 (sub ! 3 refl (whole !))))) (from ! (stop !)) (init ! 0 refl (tt, wt .1 .1 .1 .1 .0)) $
+        assigns ! (of-opd ! (load ! (from ! (fld ! refl (stop !))) (look-in ! 10 (sub ! 0 refl (whole !))))) (from ! (stop !))
+        (init ! 6 refl (tt, wt .1 .0)) $
+        assigns ! (of-opd ! (load ! (from ! (fld ! refl (stop !))) (look-in ! 10 (sub ! 1 refl (whole !))))) (from ! (stop !))
+        (init ! 4 refl (tt, wt .1 .1 .0)) $
+        assigns ! (of-opd ! (load ! (from ! (fld ! refl (stop !))) (look-in ! 10 (sub ! 2 refl (whole !))))) (from ! (stop !))
+        (init ! 2 refl (tt, wt .1 .1 .1 .0)) $
+        assigns ! (of-opd ! (load ! (from ! (fld ! refl (stop !))) (look-in ! 10 (sub ! 3 refl (whole !))))) (from ! (stop !))
+        (init ! 0 refl (tt, wt .1 .1 .1 .1 .0)) $
         move ! (14 ∷ []) $ use1 W (raw (Called 𝓤 H A mem run .pre to)) asked $ calls-at ! fm (Called 𝓤 H A mem run) known to
-        (and-then ! (load ! (from ! (stop !)) (look ! 7 refl)) (and-then ! (load ! (from ! (stop !)) (look ! 5 refl)) (and-then ! (load ! (from ! (stop !)) (look ! 3 refl)) (and-then ! (load ! (from ! (stop !)) (look ! 1 refl))
+        (and-then ! (load ! (from ! (stop !)) (look ! 7 refl))
+        (and-then ! (load ! (from ! (stop !)) (look ! 5 refl))
+        (and-then ! (load ! (from ! (stop !)) (look ! 3 refl)) (and-then ! (load ! (from ! (stop !)) (look ! 1 refl))
         (and-then ! (load ! (from ! (stop !)) (look ! 9 refl)) (no-more !)))))) (λ u.
-        answered ! tt callee.ended (callee.clauses 𝓤 H A mem run) to u (Token κ q) (rejoined 𝓤 H A W κ d q (‵ ftrue)) IsRow (λ r e. id⊢ 𝓤 _) (λ r e is.
+        answered ! tt callee.ended (callee.clauses 𝓤 H A mem run) to u (Token κ q) (rejoined 𝓤 H A W κ d q (‵ ftrue)) IsRow
+        (λ r e. id⊢ 𝓤 _) (λ r e is.
         -- [the row; the token; _6; …; _0; …]
         land ! (from ! (stop !)) (init ! 14 refl (shr-slice-lawful 𝓤 H A W (named 0) κ f32 .typed r _ is .0)) $ returns ! (look ! 14 refl) $
         forget ! 2 refl $ forget ! 4 refl $ forget ! 6 refl $ forget ! 8 refl $ forget ! 10 refl $ forget ! 12 refl $ forget ! 14 refl $
@@ -104,9 +114,12 @@ module _ {M : Type 1} (𝓤 : URA M) (H : Heap 𝓤) (A : Atoms 𝓤) (W : Given
 pub row-spec : {M : Type 1} → stated.statement M
 unfolding code.routine
 row-spec 𝓤 H 𝓜 𝓖 𝓡 =
-    let known = cited 𝓤 H (Called 𝓤 H (𝓖 .A) (𝓜 .mem) (𝓡 .run)) 𝓜 𝓡 code.env callee-def.name callee-def.routine code.calls-view·row-at (callee-thm.met 𝓤 H 𝓜 𝓖 𝓡) in
+    let known =
+    cited 𝓤 H (Called 𝓤 H (𝓖 .A) (𝓜 .mem) (𝓡 .run)) 𝓜 𝓡 code.env callee-def.name callee-def.routine code.calls-view·row-at
+    (callee-thm.met 𝓤 H 𝓜 𝓖 𝓡) in
     met 𝓤 H 𝓜 𝓖 𝓡 code.env row.ended (row.clauses 𝓤 H (𝓖 .A) (𝓜 .mem) (𝓡 .run)) name code.function
     (λ κs. (spelled κs, (uint-vals w64, tt))) (λ κs. (told κs, (uint-tells w64, tt))) (code.unfolded 𝓤 H 𝓜 𝓡)
     ((λ κs v f. refl), ((λ κs v f. refl), tt)) (λ fm κs qs bounds a g are. via 𝓤 _ (fst∗ 𝓤 _ (emp 𝓤))
-    (walk 𝓤 H (𝓖 .A) (givenOf 𝓤 H 𝓜 𝓖) (𝓜 .mem) (𝓡 .run) (κs .0) (qs .0) (a .0) (a .1 .0) (tables 𝓤 H 𝓜 𝓡 code.env .C) (tables 𝓤 H 𝓜 𝓡 code.env .Λ) fm known
+    (walk 𝓤 H (𝓖 .A) (givenOf 𝓤 H 𝓜 𝓖) (𝓜 .mem) (𝓡 .run) (κs .0) (qs .0) (a .0) (a .1 .0) (tables 𝓤 H 𝓜 𝓡 code.env .C)
+    (tables 𝓤 H 𝓜 𝓡 code.env .Λ) fm known
     (typed 𝓤 H (𝓖 .A) (givenOf 𝓤 H 𝓜 𝓖) (κs .0) (a .0) (are .0)) (are .1 .0 .1)))

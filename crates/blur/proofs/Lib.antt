@@ -1,0 +1,5 @@
+-- What the blur depends on, how large its values are and which sizes fit, for callers; then the steps of the proofs.
+pub mod BlurLaws
+pub mod BlurRange
+pub mod Fits
+pub mod Steps

@@ -1,0 +1,2 @@
+-- The peak fit.
+pub mod PeakFit

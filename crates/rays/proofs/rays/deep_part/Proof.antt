@@ -1,0 +1,53 @@
+-- `deep_part`: a turn stores the response of a pixel whose eight entries are in the image. Assumes nothing.
+use Prim.Native.Nat.{_+_, _-_}
+use native.Mathlib.Omega.{arith}
+use Rattle.grid.proofs.Loops.{Line, line-none, line-more, line-all}
+use Rattle.rays.specs.Shown.{readAt}
+use Rattle.rays.proofs.rays.deep_part.Statement.{statement}
+use Rattle.rays.proofs.rays.deep_part.Tie as tie
+
+abbrev Inv-loop : tie.InvT-loop
+Inv-loop row col falling rising at a out₀ n i₀ out i = Line n (λ i. readAt row at (a + i)) out₀ out i
+
+abbrev μ-loop : tie.MeasureT-loop
+μ-loop row col falling rising at a out₀ n i₀ out i = n - i
+
+abbrev start : tie.In-loop Inv-loop μ-loop → tie.Start Inv-loop μ-loop
+start t = t .before .before .before .before .before .before .before
+
+loop-holds : tie.Need-loop-holds Inv-loop μ-loop
+loop-holds c = line-none _ _ _
+
+add-deep-response : tie.Need-add-deep-response Inv-loop μ-loop
+add-deep-response c = omega arith
+
+deep-response-requires : tie.Need-deep-response-requires Inv-loop μ-loop
+deep-response-requires c κs =
+    (record { left = omega arith; right = omega arith; above = start c .pre .0; below = start c .pre .1 }, start c .pre .4)
+
+mul-out : tie.Need-mul-out Inv-loop μ-loop
+mul-out c = omega arith
+
+slice-write-out : tie.Need-slice-write-out Inv-loop μ-loop
+slice-write-out c = omega arith
+
+add-i : tie.Need-add-i Inv-loop μ-loop
+add-i c = omega arith
+
+loop-less : tie.Need-loop-less Inv-loop μ-loop
+loop-less c = omega arith
+
+loop-again : tie.Need-loop-again Inv-loop μ-loop
+loop-again c = line-more _ _ _ (c .before .before .loop .inv) (c .before .loop-test .taken) (c .deep-response .ensures)
+
+same-length : tie.Need-same-length Inv-loop μ-loop
+same-length c = c .before .loop .inv .long
+
+returns : tie.Need-returns Inv-loop μ-loop
+returns c = line-all _ _ _ (c .before .loop .inv) (c .loop-test .left)
+
+pub deep-part-spec : {M : Type 1} → statement M
+deep-part-spec =
+    tie.close
+    (tie.spec Inv-loop μ-loop loop-holds add-deep-response deep-response-requires mul-out slice-write-out add-i loop-less
+    loop-again same-length returns)

@@ -1,0 +1,51 @@
+// The four tables of running sums and the response of the rays, over buffers that the caller lends.
+mod cumsums;
+mod rays;
+
+ghost use mathlib.Core.Path.{_≡_};
+ghost use mathlib.Core.Bool.{cond};
+ghost use lib.ListN.{length};
+ghost use Rattle.grid.specs.Ways.{pixel};
+ghost use Rattle.rays.specs.Lent.{tabled, raysOf, raysFit};
+use rays::Size;
+use sizes::fits;
+use sizes::lesser;
+
+// The greatest ray radius.
+const MAX_RAY_RADIUS: usize = 7;
+
+// Each buffer needs an entry for every pixel; where the sizes do not fit, nothing changes.
+pub fn ray_response(
+    img: &[u8],
+    w: usize,
+    h: usize,
+    r: usize,
+    row: &mut [u32],
+    col: &mut [u32],
+    falling: &mut [u32],
+    rising: &mut [u32],
+    response: &mut [f32],
+)
+    ensures { λ _. ⌜
+        tabled (now (row .exit)) (now (col .exit)) (now (falling .exit)) (now (rising .exit)) (now (response .exit))
+        ≡ cond
+        (raysFit w h r (length (now (img .entry)))
+        (tabled (now (row .entry)) (now (col .entry)) (now (falling .entry)) (now (rising .entry)) (now (response .entry))))
+        (raysOf (pixel (now (img .entry)) w) w h r
+        (tabled (now (row .entry)) (now (col .entry)) (now (falling .entry)) (now (rising .entry)) (now (response .entry))))
+        (tabled (now (row .entry)) (now (col .entry)) (now (falling .entry)) (now (rising .entry)) (now (response .entry)))
+        ⌝ }
+{
+    if MAX_RAY_RADIUS < r {
+        return;
+    }
+    let tables = lesser(
+        lesser(row.len(), col.len()),
+        lesser(falling.len(), rising.len()),
+    );
+    let room = lesser(lesser(img.len(), response.len()), tables);
+    if fits(w, h, room) {
+        cumsums::build_cumsums(img, w, h, row, col, falling, rising);
+        rays::compute_response(row, col, falling, rising, Size { w, h, r }, response);
+    }
+}

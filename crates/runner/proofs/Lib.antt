@@ -1,4 +1,0 @@
--- What the proof of the function cites, and what a program's proofs cite of a printed line.
-pub mod Cases
-pub mod Within
-pub mod SameLines

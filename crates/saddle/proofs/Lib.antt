@@ -1,0 +1,8 @@
+-- The steps behind the functions; then facts of the saddle test alone.
+pub mod Exact
+pub mod Table
+pub mod Walk
+pub mod Sign
+pub mod Fitting
+pub mod Rooted
+pub mod Inside

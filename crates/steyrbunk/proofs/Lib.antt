@@ -1,3 +1,0 @@
--- Steps of the proofs, and that the map goes by three settings.
-pub mod Cases
-pub mod OnlyThree

@@ -1,2 +1,0 @@
--- What the functions for C and Rust promise, over what the crates beneath promise.
-pub mod Called

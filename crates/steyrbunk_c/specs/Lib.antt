@@ -1,0 +1,3 @@
+-- What the functions for C and Rust promise, over what the crates beneath promise.
+pub mod Called
+pub mod OrNan

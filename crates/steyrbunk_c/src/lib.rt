@@ -1,0 +1,223 @@
+// The finder, the map and the list, the square root and the logarithm for a C or Rust program to call: numbers and slices, and every answer as its
+// number. A slice is a pointer and a length there. The header in tools/steyrbunk/include explains each argument.
+ghost use mathlib.Core.Path.{_≡_};
+ghost use lib.ListN.{length};
+ghost use lib.Dec.{eqb};
+ghost use Rattle.scalar.specs.Log.{logOf, terms, high};
+ghost use Rattle.scalar.specs.Root.{rootOf};
+ghost use Rattle.params.specs.Answers.{numberOf};
+ghost use Rattle.response.specs.Map.{mapLent, mappedOf, mapBuffersOf};
+ghost use Rattle.radon.specs.Finder.{lent};
+ghost use Rattle.steyrbunk_c.specs.Called.{modeOf, settingsOf, mapSettings, reported, told, mapReported, mapTold};
+ghost use Rattle.steyrbunk_c.specs.Called.{calledOutcome, calledBuffers, calledPeaks, calledList};
+ghost use Rattle.steyrbunk_c.specs.OrNan.{rootOrNan, logOrNan};
+use params::Answer;
+use params::Outcome;
+use params::PeakFitMode;
+use params::RadonDetectorParams;
+use radon::radon_corners_u8;
+use response::radon_response_u8;
+use scalar::Log;
+use scalar::Root;
+
+// The settings that a call's numbers give.
+enum Settings {
+    Given(RadonDetectorParams),
+    // The number of the mode is above 1.
+    NoSuchMode,
+}
+
+fn settings_of(
+    ray: u32,
+    up: u32,
+    blur: u32,
+    fit: u32,
+    threshold: f32,
+    nms: u32,
+    least: u32,
+) -> Settings
+    ensures { λ r. ⌜ r ≡ settingsOf ray up blur fit threshold nms least ⌝ }
+{
+    if fit > 1 {
+        return Settings::NoSuchMode;
+    }
+    Settings::Given(RadonDetectorParams {
+        ray_radius: ray,
+        image_upsample: up,
+        response_blur_radius: blur,
+        peak_fit: mode_of(fit),
+        threshold_rel: threshold,
+        nms_radius: nms,
+        min_cluster_size: least,
+    })
+}
+
+fn mode_of(fit: u32) -> PeakFitMode
+    ensures { λ r. ⌜ r ≡ modeOf (eqb fit 0) ⌝ }
+{
+    if fit == 0 {
+        return PeakFitMode::Parabolic;
+    }
+    PeakFitMode::Gaussian
+}
+
+// An outcome as the caller sees it: three numbers through references, and the answer's.
+fn tell(o: Outcome, count: &mut usize, w: &mut usize, h: &mut usize) -> u32
+    ensures { λ r. ⌜ reported r (now (count .exit)) (now (w .exit)) (now (h .exit)) ≡ told o ⌝ }
+{
+    let answer = o.answer;
+    *count = o.count;
+    *w = o.w;
+    *h = o.h;
+    answer.number()
+}
+
+// The finder: map and list of an image in one call.
+#[no_mangle]
+pub extern "C" fn steyrbunk_find(
+    img: &[u8],
+    w: usize,
+    h: usize,
+    ray: u32,
+    up: u32,
+    blur: u32,
+    fit: u32,
+    threshold: f32,
+    nms: u32,
+    least: u32,
+    work: &mut [u8],
+    row: &mut [u32],
+    col: &mut [u32],
+    falling: &mut [u32],
+    rising: &mut [u32],
+    resp: &mut [f32],
+    scratch: &mut [f32],
+    list: &mut [f32],
+    count: &mut usize,
+    ww: &mut usize,
+    wh: &mut usize,
+) -> u32
+    ensures told { λ r. ⌜ reported r (now (count .exit)) (now (ww .exit)) (now (wh .exit))
+        ≡ told (calledOutcome (settingsOf ray up blur fit threshold nms least) (now (img .entry)) w h
+        (lent (now (work .entry)) (now (row .entry)) (now (col .entry)) (now (falling .entry)) (now (rising .entry))
+        (now (resp .entry)) (now (scratch .entry)) (now (list .entry)))) ⌝ }
+    ensures buffers { λ _. ⌜ lent (now (work .exit)) (now (row .exit)) (now (col .exit)) (now (falling .exit)) (now (rising .exit))
+        (now (resp .exit)) (now (scratch .exit)) (now (list .exit))
+        ≡ calledBuffers (settingsOf ray up blur fit threshold nms least) (now (img .entry)) w h
+        (lent (now (work .entry)) (now (row .entry)) (now (col .entry)) (now (falling .entry)) (now (rising .entry))
+        (now (resp .entry)) (now (scratch .entry)) (now (list .entry))) ⌝ }
+{
+    let Settings::Given(p) = settings_of(ray, up, blur, fit, threshold, nms, least) else {
+        return tell(Outcome::refusal(Answer::Mode), count, ww, wh);
+    };
+    let o = radon_corners_u8(img, w, h, p, work, row, col, falling, rising, resp, scratch, list);
+    tell(o, count, ww, wh)
+}
+
+// The settings for the map's own entry.
+fn map_settings(ray: u32, up: u32, blur: u32) -> RadonDetectorParams
+    ensures { λ r. ⌜ r ≡ mapSettings ray up blur ⌝ }
+{
+    RadonDetectorParams {
+        ray_radius: ray,
+        image_upsample: up,
+        response_blur_radius: blur,
+        peak_fit: PeakFitMode::Gaussian,
+        threshold_rel: RadonDetectorParams::DEFAULT_THRESHOLD_REL,
+        nms_radius: RadonDetectorParams::DEFAULT_NMS_RADIUS,
+        min_cluster_size: RadonDetectorParams::DEFAULT_MIN_CLUSTER_SIZE,
+    }
+}
+
+// The map alone.
+#[no_mangle]
+pub extern "C" fn steyrbunk_response(
+    img: &[u8],
+    w: usize,
+    h: usize,
+    ray: u32,
+    up: u32,
+    blur: u32,
+    working: &mut [u8],
+    row: &mut [u32],
+    col: &mut [u32],
+    falling: &mut [u32],
+    rising: &mut [u32],
+    response: &mut [f32],
+    scratch: &mut [f32],
+    ww: &mut usize,
+    wh: &mut usize,
+) -> u32
+    ensures told { λ r. ⌜ mapReported r (now (ww .exit)) (now (wh .exit))
+        ≡ mapTold (mappedOf (now (img .entry)) w h (mapSettings ray up blur)
+        (mapLent (now (working .entry)) (now (row .entry)) (now (col .entry)) (now (falling .entry)) (now (rising .entry))
+        (now (response .entry)) (now (scratch .entry)))) ⌝ }
+    ensures buffers { λ _. ⌜ mapLent (now (working .exit)) (now (row .exit)) (now (col .exit)) (now (falling .exit)) (now (rising .exit))
+        (now (response .exit)) (now (scratch .exit))
+        ≡ mapBuffersOf (now (img .entry)) w h (mapSettings ray up blur)
+        (mapLent (now (working .entry)) (now (row .entry)) (now (col .entry)) (now (falling .entry)) (now (rising .entry))
+        (now (response .entry)) (now (scratch .entry))) ⌝ }
+{
+    let p = map_settings(ray, up, blur);
+    let m = radon_response_u8(img, w, h, p, working, row, col, falling, rising, response, scratch);
+    let answer = m.answer;
+    *ww = m.w;
+    *wh = m.h;
+    answer.number()
+}
+
+// The list of a map over its working image, both w wide and h high.
+#[no_mangle]
+pub extern "C" fn steyrbunk_peaks(
+    response: &[f32],
+    image: &[u8],
+    w: usize,
+    h: usize,
+    ray: u32,
+    up: u32,
+    blur: u32,
+    fit: u32,
+    threshold: f32,
+    nms: u32,
+    least: u32,
+    list: &mut [f32],
+    count: &mut usize,
+) -> u32
+    ensures answer { λ r. ⌜ r ≡ numberOf ((calledPeaks (settingsOf ray up blur fit threshold nms least) w h
+        (now (response .entry)) (now (image .entry)) (length (now (list .entry)))) .answer) ⌝ }
+    ensures count { λ _. ⌜ now (count .exit) ≡ (calledPeaks (settingsOf ray up blur fit threshold nms least) w h
+        (now (response .entry)) (now (image .entry)) (length (now (list .entry)))) .count ⌝ }
+    ensures list { λ _. ⌜ now (list .exit) ≡ calledList (settingsOf ray up blur fit threshold nms least) w h
+        (now (response .entry)) (now (image .entry)) (now (list .entry)) ⌝ }
+{
+    let Settings::Given(p) = settings_of(ray, up, blur, fit, threshold, nms, least) else {
+        *count = 0;
+        return Answer::Mode.number();
+    };
+    let o = detect::detect_peaks_from_radon(response, image, w, h, p, list);
+    let answer = o.answer;
+    *count = o.count;
+    answer.number()
+}
+
+// The square root. NaN stands for "outside", here and below.
+#[no_mangle]
+pub extern "C" fn steyrbunk_sqrt(x: f32) -> f32
+    ensures { λ r. ⌜ r ≡ rootOrNan (rootOf x) ⌝ }
+{
+    match scalar::sqrt(x) {
+        Root::Value(y) => y,
+        Root::Outside => 0.0 / 0.0,
+    }
+}
+
+// The logarithm.
+#[no_mangle]
+pub extern "C" fn steyrbunk_ln(x: f32) -> f32
+    ensures { λ r. ⌜ r ≡ logOrNan (logOf terms high x) ⌝ }
+{
+    match scalar::ln(x) {
+        Log::Value(y) => y,
+        Log::Outside => 0.0 / 0.0,
+    }
+}
