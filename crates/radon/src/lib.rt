@@ -33,7 +33,7 @@ pub fn radon_corners_u8(
     let tables = lesser(lesser(row.len(), col.len()), lesser(falling.len(), rising.len()));
     let floats = lesser(response.len(), scratch.len());
     let room = lesser(working.len(), lesser(tables, floats));
-    let answer = params::judge(w, h, img.len(), p, room);
+    let answer = params::judge_finder_call(w, h, img.len(), p, room);
     if answer.number() != 0 {
         return Outcome::refusal(answer);
     }
