@@ -28,7 +28,7 @@ use Rattle.scalar.specs.declared.Log.the-variants.{Value}
 use Rattle.peak_fit.specs.PeakFit.{flat, denominator, usable, allUsable, allAbove, fitOf}
 use Rattle.grid.specs.Ways.{value}
 use Rattle.detect.specs.Window.{beaten, positives}
-use Rattle.detect.specs.declared.saddle.Saddle.{Saddle}
+use Rattle.saddle.specs.declared.Saddle.{Saddle}
 use Rattle.detect.specs.Maximum.{maximum}
 use Rattle.detect.specs.Corners.{borderOf, candidates, floorOf, firstFailing, bySaddle, isSaddle, isKept, verdict, corners, inputAt, numbers}
 use Rattle.peak_fit.proofs.AsRust.{rustClamp, rustPeak, fit-as-rust as clamped-fit}

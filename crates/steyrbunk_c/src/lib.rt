@@ -2,16 +2,16 @@
 // number. A slice is a pointer and a length there. The header in tools/steyrbunk/include explains each argument.
 ghost use mathlib.Core.Path.{_≡_};
 ghost use lib.ListN.{length};
-ghost use lib.Dec.{eqb};
 ghost use Rattle.scalar.specs.Log.{logOf, terms, high};
 ghost use Rattle.scalar.specs.Root.{rootOf};
 ghost use Rattle.params.specs.Answers.{numberOf};
 ghost use Rattle.response.specs.Map.{mapLent, mappedOf, mapBuffersOf};
 ghost use Rattle.radon.specs.Finder.{lent};
-ghost use Rattle.steyrbunk_c.specs.Called.{modeOf, settingsOf, mapSettings, reported, told, mapReported, mapTold};
+ghost use Rattle.steyrbunk_c.specs.Called.{settingsOf, mapSettings, reported, told, mapReported, mapTold};
 ghost use Rattle.steyrbunk_c.specs.Called.{calledOutcome, calledBuffers, calledPeaks, calledList};
 ghost use Rattle.steyrbunk_c.specs.OrNan.{rootOrNan, logOrNan};
 use params::Answer;
+use params::NumberedMode;
 use params::Outcome;
 use params::PeakFitMode;
 use params::RadonDetectorParams;
@@ -38,27 +38,18 @@ fn settings_of(
 ) -> Settings
     ensures { λ r. ⌜ r ≡ settingsOf ray up blur fit threshold nms least ⌝ }
 {
-    if fit > 1 {
+    let NumberedMode::Known(peak_fit) = PeakFitMode::of_number(fit) else {
         return Settings::NoSuchMode;
-    }
+    };
     Settings::Given(RadonDetectorParams {
         ray_radius: ray,
         image_upsample: up,
         response_blur_radius: blur,
-        peak_fit: mode_of(fit),
+        peak_fit,
         threshold_rel: threshold,
         nms_radius: nms,
         min_cluster_size: least,
     })
-}
-
-fn mode_of(fit: u32) -> PeakFitMode
-    ensures { λ r. ⌜ r ≡ modeOf (eqb fit 0) ⌝ }
-{
-    if fit == 0 {
-        return PeakFitMode::Parabolic;
-    }
-    PeakFitMode::Gaussian
 }
 
 // An outcome as the caller sees it: three numbers through references, and the answer's.
