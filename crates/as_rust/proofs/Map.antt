@@ -293,7 +293,7 @@ module _ (m : Machine) (img : List ℕ) (w h : ℕ) (p : RadonDetectorParams) (b
       let table = table-same m work W H r blur f is i sized sized-is (runs .ray-most) (runs .blur-most) in
       -- the document's recurrence, as the sums that the laws use
       let shown : (d : Way) (old : List ℕ) → map pos (take (W * H) (tableOf d f W H old)) ≡ map pos (take (W * H) (filled (W * H) (plane W (runSum d f W)) old)) =
-          λ d old. ap (λ (l : List ℕ). map pos (take (W * H) l)) (table-filled f W d H old) in
+      λ d old. ap (λ (l : List ℕ). map pos (take (W * H) l)) (table-filled f W d H old) in
       rw (usize-is m (w * h) (omega arith), eq-eqb (length img) (w * h) (runs .whole), up, ray, sized-is .width, sized-is .height, narrow (m .narrow))
       (record {
         same = record {

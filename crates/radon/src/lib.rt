@@ -30,13 +30,28 @@ pub fn radon_corners_u8(
         (lent (now (working .entry)) (now (row .entry)) (now (col .entry)) (now (falling .entry)) (now (rising .entry))
         (now (response .entry)) (now (scratch .entry)) (now (list .entry))) ⌝ }
 {
-    let tables = lesser(lesser(row.len(), col.len()), lesser(falling.len(), rising.len()));
+    let tables = lesser(
+        lesser(row.len(), col.len()),
+        lesser(falling.len(), rising.len()),
+    );
     let floats = lesser(response.len(), scratch.len());
     let room = lesser(working.len(), lesser(tables, floats));
     let answer = params::judge_finder_call(w, h, img.len(), p, room);
     if answer.number() != 0 {
         return Outcome::refusal(answer);
     }
-    let map = radon_response_u8(img, w, h, p, working, row, col, falling, rising, response, scratch);
+    let map = radon_response_u8(
+        img,
+        w,
+        h,
+        p,
+        working,
+        row,
+        col,
+        falling,
+        rising,
+        response,
+        scratch,
+    );
     detect::detect_peaks_from_radon(response, working, map.w, map.h, p, list)
 }

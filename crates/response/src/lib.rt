@@ -18,7 +18,15 @@ pub struct Mapped {
 }
 
 // The least of seven lengths: that of the working image, of the four tables, of response and scratch.
-fn shortest(i: usize, row: usize, col: usize, fall: usize, rise: usize, resp: usize, s: usize) -> usize
+fn shortest(
+    i: usize,
+    row: usize,
+    col: usize,
+    fall: usize,
+    rise: usize,
+    resp: usize,
+    s: usize,
+) -> usize
     ensures { λ r. ⌜ r ≡ min i (min (min (min row col) (min fall rise)) (min resp s)) ⌝ }
 {
     let tables = lesser(lesser(row, col), lesser(fall, rise));

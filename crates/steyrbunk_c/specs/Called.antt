@@ -1,8 +1,6 @@
 -- What a call's numbers mean, and what it reports in numbers. Corners, map and buffers are those of the crates beneath.
-use mathlib.Core.Bool.{Bool, true, false, cond}
 use mathlib.Core.List.{List}
 use Prim.Native.Nat.{ℕ}
-use lib.Dec.{eqb}
 use lib.Ieee.{Float}
 use Rattle.params.specs.declared.settings.PeakFitMode.{PeakFitMode}
 use Rattle.params.specs.declared.settings.NumberedMode.{NumberedMode}

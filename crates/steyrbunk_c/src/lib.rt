@@ -101,7 +101,20 @@ pub extern "C" fn steyrbunk_find(
     let Settings::Given(p) = settings_of(ray, up, blur, fit, threshold, nms, least) else {
         return tell(Outcome::refusal(Answer::Mode), count, ww, wh);
     };
-    let o = radon_corners_u8(img, w, h, p, work, row, col, falling, rising, resp, scratch, list);
+    let o = radon_corners_u8(
+        img,
+        w,
+        h,
+        p,
+        work,
+        row,
+        col,
+        falling,
+        rising,
+        resp,
+        scratch,
+        list,
+    );
     tell(o, count, ww, wh)
 }
 
@@ -150,7 +163,19 @@ pub extern "C" fn steyrbunk_response(
         (now (response .entry)) (now (scratch .entry))) ⌝ }
 {
     let p = map_settings(ray, up, blur);
-    let m = radon_response_u8(img, w, h, p, working, row, col, falling, rising, response, scratch);
+    let m = radon_response_u8(
+        img,
+        w,
+        h,
+        p,
+        working,
+        row,
+        col,
+        falling,
+        rising,
+        response,
+        scratch,
+    );
     let answer = m.answer;
     *ww = m.w;
     *wh = m.h;
