@@ -18,7 +18,7 @@ start c = c .before .before .before .before .before .before .before .before .bef
 abbrev given : tie.After-judge-finder-call → Buffers
 given c =
     let o = start c .args in
-    lent (now (o .working)) (now (o .row)) (now (o .col)) (now (o .falling)) (now (o .rising)) (now (o .response)) (now (o .scratch)) (now (o .list))
+    lent (now (o .work)) (now (o .row)) (now (o .col)) (now (o .fall)) (now (o .rise)) (now (o .resp)) (now (o .scratch)) (now (o .list))
 
 -- from the end to the call that makes the map, and from there to the answer's number and to the answer
 abbrev the-map : tie.After-slice-known16 → tie.After-radon-response-u8

@@ -28,7 +28,7 @@ others s m = record {
   «image_upsample» = s .args .up;
   «response_blur_radius» = s .args .blur;
   «peak_fit» = m;
-  «threshold_rel» = s .args .threshold;
+  «threshold_rel» = s .args .rel;
   «nms_radius» = s .args .nms;
   «min_cluster_size» = s .args .least;
 }
