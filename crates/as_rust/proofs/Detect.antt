@@ -25,13 +25,13 @@ use Rattle.params.specs.Coordinates.{toInput, scaleOf}
 use Rattle.params.proofs.Accepted.{ListPasses}
 use Rattle.scalar.specs.Log.{logOf, terms, high}
 use Rattle.scalar.specs.declared.Log.the-variants.{Value}
-use Rattle.detect.specs.PeakFit.{flat, denominator, usable, allUsable, allAbove, fitOf}
+use Rattle.peak_fit.specs.PeakFit.{flat, denominator, usable, allUsable, allAbove, fitOf}
 use Rattle.grid.specs.Ways.{value}
 use Rattle.detect.specs.Window.{beaten, positives}
-use Rattle.detect.specs.declared.saddle.Saddle.{Saddle}
+use Rattle.saddle.specs.declared.Saddle.{Saddle}
 use Rattle.detect.specs.Maximum.{maximum}
 use Rattle.detect.specs.Corners.{borderOf, candidates, floorOf, firstFailing, bySaddle, isSaddle, isKept, verdict, corners, inputAt, numbers}
-use Rattle.detect.proofs.AsRust.{rustClamp, rustPeak, fit-as-rust as clamped-fit}
+use Rattle.peak_fit.proofs.AsRust.{rustClamp, rustPeak, fit-as-rust as clamped-fit}
 use Rattle.as_rust.specs.Machine.{Machine, Sound, _⊖_, _⊗_, _⊘_, lit-0, lit-1, lit-half, lit-minus-half, clamp, maxℤ, i32, usize, as-i32, as-usize, as-f32, float-at}
 use Rattle.as_rust.specs.Primitives.{peak-frac, fit-peak-frac}
 use Rattle.as_rust.specs.Response.{RadonResponseView}

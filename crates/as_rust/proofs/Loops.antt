@@ -67,7 +67,7 @@ pub rows-loop : {A : Type 0} (w h : ℕ) (g : ℕ → ℕ → A) (xs : List A) �
 rows-loop w h g xs room step k =
     rows-all w h g xs
     (for-keeps (λ y ys. Rows w h g xs ys y) 0 h step xs (omega arith) (rows-none w h g xs)
-    (λ y ys a b r. rows-more w h g xs r b (k y ys b (omega (arith, r .steps .long)) (row-none w h g xs r b)) (omega arith)))
+    (λ y ys a b r. rows-more w h g xs r b (k y ys b (omega (arith, r .long)) (row-none w h g xs r b)) (omega arith)))
     (omega arith)
 
 -- a value at each pixel

@@ -21,6 +21,8 @@ use Rattle.params.specs.declared.settings.RadonDetectorParams.{RadonDetectorPar
 use Rattle.params.specs.Settings.{factorOf, rayOf}
 use Rattle.upsample.specs.Upsample.{upAt, workAt}
 use Rattle.upsample.proofs.RoundedQuarter.{work-most}
+use Rattle.rays.specs.Tables.{tableOf}
+use Rattle.rays.proofs.Summed.{table-filled}
 use Rattle.rays.specs.Response.{responseAt}
 use Rattle.rays.proofs.Inner.{response-ext}
 use Rattle.blur.specs.Blur.{valueAt, rowMean, blurAt, scratched}
@@ -289,16 +291,19 @@ module _ (m : Machine) (img : List ℕ) (w h : ℕ) (p : RadonDetectorParams) (b
       let blur = p .«response_blur_radius» in
       let t = built m work W H r blur f is i sized sized-is (runs .ray-most) (runs .blur-most) in
       let table = table-same m work W H r blur f is i sized sized-is (runs .ray-most) (runs .blur-most) in
+      -- the document's recurrence, as the sums that the laws use
+      let shown : (d : Way) (old : List ℕ) → map pos (take (W * H) (tableOf d f W H old)) ≡ map pos (take (W * H) (filled (W * H) (plane W (runSum d f W)) old)) =
+      λ d old. ap (λ (l : List ℕ). map pos (take (W * H) l)) (table-filled f W d H old) in
       rw (usize-is m (w * h) (omega arith), eq-eqb (length img) (w * h) (runs .whole), up, ray, sized-is .width, sized-is .height, narrow (m .narrow))
       (record {
         same = record {
           width = refl;
           height = refl;
           working = taken-same (W * H) (plane W f) (b .working) (work-is .old) (runs .working-room) (work-is .long) ∙ sym (work-is .is);
-          row = table along _ (t .rows) (b .row) (runs .row-room);
-          col = table down _ (t .columns) (b .col) (runs .col-room);
-          falling = table fall _ (t .falling) (b .falling) (runs .falling-room);
-          rising = table rise _ (t .rising) (b .rising) (runs .rising-room);
+          row = shown along (b .row) ∙ table along _ (t .rows) (b .row) (runs .row-room);
+          col = shown down (b .col) ∙ table down _ (t .columns) (b .col) (runs .col-room);
+          falling = shown fall (b .falling) ∙ table fall _ (t .falling) (b .falling) (runs .falling-room);
+          rising = shown rise (b .rising) ∙ table rise _ (t .rising) (b .rising) (runs .rising-room);
           response = taken-same (W * H) _ (b .response) (sized .response) (runs .response-room) (sized-is .response-long)
               ∙ sym (response-is m work W H r blur f is i sized sized-is (runs .ray-most) (runs .blur-most));
           scratch =

@@ -19,7 +19,7 @@ use Rattle.float.proofs.Product.{round-zero}
 use Rattle.grid.specs.Fold.{fold}
 use Rattle.grid.proofs.Fold.{fold-more, fold-ext}
 use Rattle.grid.specs.Plane.{plane}
-use Rattle.detect.specs.PeakFit.{greatest, usable}
+use Rattle.peak_fit.specs.PeakFit.{greatest, usable}
 use Rattle.grid.specs.Ways.{value}
 use Rattle.detect.specs.Maximum.{greater, maximum}
 use Rattle.as_rust.specs.Machine.{Machine, _⊗_, lit-0, lit-1, neg-infinity, max-f32, is-finite}

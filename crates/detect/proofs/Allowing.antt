@@ -13,7 +13,7 @@ use Rattle.params.specs.declared.answers.Answer.the-variants.{Complete, ListFul
 use Rattle.params.specs.declared.answers.Outcome.{Outcome}
 use Rattle.params.specs.declared.settings.RadonDetectorParams.{RadonDetectorParams}
 use Rattle.params.specs.Answers.{numberOf, refused}
-use Rattle.params.specs.Refusals.{pick, orElse, mapRefusal, listRefusal, roomRefusal}
+use Rattle.params.specs.Refusals.{orElse, mapRefusal, listRefusal, roomRefusal}
 use Rattle.params.proofs.Accepted.{both-pass, map-passes, list-passes, room-passes}
 use Rattle.detect.specs.declared.verdict.Scan.{Scan}
 use Rattle.detect.specs.Corners.{stride}

@@ -10,9 +10,9 @@ use lib.Ieee.{Float, nan, inf, fin, lt, le, ofBits, isNan}
 use Rattle.float.specs.Values.{f0}
 use Rattle.float.proofs.Order.{lt-le, le-lt-trans, le-of-not-lt, lt-itself}
 use Rattle.grid.specs.Fold.{fold}
-use Rattle.grid.proofs.Fold.{fold-keeps, fold-still, fold-split}
-use Rattle.detect.specs.Above.{eight}
-use Rattle.detect.specs.Corners.{greater}
+use Rattle.grid.proofs.Fold.{fold-keeps, fold-first, fold-still, fold-split, Folding, folding-none, folding-part, folding-rest}
+use Rattle.detect.specs.Maximum.{greater}
+use Rattle.detect.specs.Crests.{eight}
 use Rattle.detect.proofs.Passing.{none-eight}
 
 one-of : (P : Float → Type 0) (b : Bool) (x y : Float) → (T b → P x) → P y → P (cond b x y)

@@ -17,13 +17,13 @@ use Rattle.grid.proofs.Each.{keep-keep, keep-ext, count-most}
 use Rattle.grid.specs.Rect.{Place}
 use Rattle.grid.specs.Over.{written}
 use Rattle.grid.proofs.Over.{opening}
-use Rattle.grid.specs.Ways.{pixel}
+use Rattle.grid.specs.Ways.{pixel, value}
 use Rattle.params.specs.declared.settings.RadonDetectorParams.{RadonDetectorParams}
 use Rattle.params.specs.Answers.{numberOf}
 use Rattle.params.specs.Refusals.{listRefusal, mapRefusal}
 use Rattle.params.proofs.Accepted.{ListPasses, both-pass, list-passes}
-use Rattle.detect.specs.declared.saddle.Saddle.{Saddle}
-use Rattle.detect.specs.declared.saddle.Saddle.the-variants.{Yes, Flat, Curved}
+use Rattle.saddle.specs.declared.Saddle.{Saddle}
+use Rattle.saddle.specs.declared.Saddle.the-variants.{Yes, Flat, Curved}
 use Rattle.detect.specs.Window.{at, beaten, positives}
 use Rattle.detect.specs.Maximum.{maximum}
 use Rattle.detect.specs.Corners.{borderOf, candidates, floorOf, firstFailing, isSaddle, isKept, verdict, corners, numbers, stride}

@@ -12,15 +12,15 @@ use Rattle.float.specs.Values.{f0}
 use Rattle.grid.proofs.Fold.{fold-ext}
 use Rattle.grid.specs.Plane.{plane}
 use Rattle.grid.proofs.Plane.{column-in, row-number-in}
-use Rattle.grid.specs.Each.{each, keep, any, count}
-use Rattle.grid.specs.Rect.{Place, place, rect}
+use Rattle.grid.specs.Each.{each, keep, count}
+use Rattle.grid.specs.Rect.{Place, place}
+use Rattle.grid.specs.Ways.{Inside as Clear}
 use Rattle.grid.specs.Over.{over, written}
-use Rattle.grid.proofs.All.{all, all-map, all-keep, all-take, all-rect, Between, InRect, each-same, keep-same, any-same, foldl-same}
+use Rattle.grid.proofs.All.{all, all-map, all-keep, all-take, all-rect, Between, InRect, each-same, keep-same, any-same}
 use Rattle.params.specs.declared.settings.RadonDetectorParams.{RadonDetectorParams}
 use Rattle.params.specs.Settings.{rayOf}
-use Rattle.detect.specs.declared.saddle.SaddleTest.{SaddleTest}
-use Rattle.detect.specs.declared.saddle.Sums.{Sums}
-use Rattle.detect.specs.Saddle.{side, disk, inDisk, offset, overDisk, added, around, noSums, sumsOf, saddleAt, saddleOf, judge}
+use Rattle.saddle.specs.Saddle.{saddleOf}
+use Rattle.saddle.proofs.Inside.{saddle-same}
 use Rattle.detect.specs.Maximum.{greater, maximum}
 use Rattle.detect.specs.Window.{at, window, same, beaten, positives}
 use Rattle.detect.specs.Corners.{borderOf, candidates, floorOf, firstFailing, isKept, verdict, corners, numbers, stride}

@@ -19,7 +19,7 @@ use Rattle.params.specs.Settings.{factorOf}
 use Rattle.params.specs.Coordinates.{toInput}
 use Rattle.detect.specs.Window.{at}
 use Rattle.detect.specs.Maximum.{entry}
-use Rattle.detect.specs.PeakFit.{half, minusHalf}
+use Rattle.peak_fit.specs.PeakFit.{half, minusHalf}
 use Rattle.detect.specs.Corners.{borderOf, corners, offsetX, offsetY, inputAt, numbers}
 use Rattle.peak_fit.proofs.Offsets.{Central, fit-central}
 

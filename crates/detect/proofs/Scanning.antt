@@ -13,13 +13,15 @@ use lib.Dec.{T, leb, le→leb}
 use lib.IntN.{pos}
 use lib.Ieee.{Float, nan, binary32, lt, mul, inFloat}
 use Rattle.float.specs.Values.{f0}
-use Rattle.grid.specs.Fold.{fold}
 use Rattle.grid.proofs.Fold.{fold-ext}
 use Rattle.grid.specs.Plane.{plane}
+use Rattle.grid.proofs.Plane.{row-in}
 use Rattle.grid.proofs.Each.{keep-none}
-use Rattle.grid.specs.Rect.{Place, place, rect}
-use Rattle.grid.proofs.Rect.{any-in, Across, across-none, across-more, across-skip, down-more, Down, down-none, down-all, length-rect}
-use Rattle.grid.specs.Over.{written, Listed, Onward}
+use Rattle.grid.specs.Rect.{Place, place}
+use Rattle.grid.proofs.Rect.{any-in, length-rect, Down, down-none, down-more, down-all}
+use Rattle.grid.proofs.Rect.{Across, across-none, across-more, across-skip}
+use Rattle.grid.specs.Ways.{pixel, value}
+use Rattle.grid.specs.Over.{Listed, Onward}
 use Rattle.grid.proofs.Over.{listed-none, onward-none, onward-no, onward-full, onward-put}
 use Rattle.params.specs.declared.settings.RadonDetectorParams.{RadonDetectorParams}
 use Rattle.params.specs.Settings.{rayOf}
@@ -29,7 +31,9 @@ use Rattle.saddle.specs.declared.Saddle.the-variants.{Flat}
 use Rattle.detect.specs.declared.verdict.Verdict.{Verdict}
 use Rattle.detect.specs.declared.verdict.Verdict.the-variants.{NotAbove, Beaten, TooFew}
 use Rattle.detect.specs.declared.verdict.Scan.{Scan}
-use Rattle.detect.specs.Saddle.{saddleOf, saddleAt}
+use Rattle.saddle.specs.Saddle.{saddleOf, saddleNumbers, saddleAt, diskFits}
+use Rattle.saddle.specs.Steps.{Around}
+use Rattle.saddle.proofs.Fitting.{numbers-plain, accepts-plain}
 use Rattle.detect.specs.Maximum.{entry, greater, greatestOf, maximum}
 use Rattle.detect.specs.Window.{at, beaten, positives}
 use Rattle.detect.specs.Crests.{over, crest, Reached}
@@ -60,6 +64,18 @@ module _ {s : Scan} {x y resp image : ℕ} (c : Candidate s x y resp image) wher
   -- its suppression window
   pub window-room : Room (s .w) (s .h) (s .params .«nms_radius») x y resp
   window-room = inner-room (s .params .«nms_radius») (omega arith)
+
+  -- the disk of the saddle test
+  pub disk-room : Around (rayOf (s .params .«ray_radius»)) image (s .w) (s .h) x y
+  disk-room =
+      let a = c .judging .asked in
+      record {
+        small = omega (arith, a .ray);
+        wide = a .wide;
+        high = a .high;
+        inside = record { left = omega arith; right = omega arith; above = omega arith; below = omega arith };
+        room = a .working;
+      }
 
   -- its nearest
   pub near : Cross (s .w) x y resp
@@ -98,8 +114,11 @@ module _ (s : Scan) (resp : List Float) (image : List ℕ) (x y : ℕ) where
 
       pub as-saddle : {k : ℕ} {d : Saddle} {r : Verdict} → s .params .«min_cluster_size» ≤ n
           → s .test ≡ saddleOf (rayOf (s .params .«ray_radius»)) → k ≡ rayOf (s .params .«ray_radius»)
-          → d ≡ saddleAt (s .test) k (pixel image (s .w)) x y → r ≡ bySaddle d → r ≡ verdictIn s resp image here
-      as-saddle {d = q} u f g d r = rules {d = q} a (sym b ∙ t) (enough (le-leb _ _ u)) (rw (← f, ← g) (sym d)) r
+          → Around (rayOf (s .params .«ray_radius»)) (length image) (s .w) (s .h) x y
+          → d ≡ cond (diskFits k (length image) (s .w) (s .h) x y) (saddleAt (s .test) k (pixel image (s .w)) x y) Flat
+          → r ≡ bySaddle d → r ≡ verdictIn s resp image here
+      as-saddle {d = q} u f g o d r =
+          rules {d = q} a (sym b ∙ t) (enough (le-leb _ _ u)) (sym (accepts-plain o _ (pixel image (s .w)) (rw (f, g) at d))) r
 
 -- ---- a corner's numbers, stored
 
@@ -344,9 +363,9 @@ floor-is s r w h l e = ap (mul binary32 (s .«threshold_rel»)) (e ∙ maximum-i
 
 pub scan-is : (s : RadonDetectorParams) (r : List Float) (w h : ℕ) {m : Float} {k : ℕ} {t : SaddleTest}
     → w * h ≤ length r → m ≡ greatestOf (take (w * h) r)
-    → k ≡ rayOf (s .«ray_radius») → t ≡ saddleOf k
+    → s .«ray_radius» ≤ 7 → k ≡ rayOf (s .«ray_radius») → t ≡ saddleNumbers k
     → _≡_ {A = Scan} (record { w = w; h = h; params = s; test = t; floor = mul binary32 (s .«threshold_rel») m }) (scanOf s w h r)
-scan-is s r w h l e k t = rw (t, k, floor-is s r w h l e)
+scan-is s r w h l e b k t = rw (t, k, numbers-plain (rayOf (s .«ray_radius»)) (omega arith) (omega arith), floor-is s r w h l e)
 
 pub judging : (s : RadonDetectorParams) (w h : ℕ) (resp : List Float) (image : List ℕ) {c : Scan}
     → c ≡ scanOf s w h resp → Asked s w h (length resp) (length image)

@@ -13,12 +13,15 @@ use lib.Ieee.{Float, nan, lt}
 use Rattle.float.specs.Values.{f0}
 use Rattle.grid.proofs.Plane.{row-in, next-row, row-above}
 use Rattle.grid.specs.Each.{any, count}
-use Rattle.grid.proofs.Each.{count-append, count-none, count-yes, count-no}
+use Rattle.grid.proofs.Each.{any-none, any-append, count-append, count-most, count-none, count-yes, count-no}
 use Rattle.grid.specs.Rect.{Place, place, rect, line, range}
-use Rattle.grid.proofs.Rect.{before, rect-at, any-in, any-line-none, count-line, count-range-ext, keep-line-ext, keep-rect-ext}
-use Rattle.detect.specs.Window.{value, at, window, same, beaten, positives}
-use Rattle.detect.specs.Above.{entry, over, Next}
-use Rattle.detect.specs.Room.{Room, nearest}
+use Rattle.grid.proofs.Rect.{before, rect-at, any-in, any-line-none, count-line, length-line, count-range-ext}
+use Rattle.grid.proofs.Rect.{Down, down-none, down-row, down-all, keep-line-ext, keep-rect-ext}
+use Rattle.grid.specs.Ways.{value}
+use Rattle.detect.specs.Maximum.{entry}
+use Rattle.detect.specs.Window.{at, window, same, beaten, positives}
+use Rattle.detect.specs.Crests.{over, Next}
+use Rattle.detect.specs.Room.{Room, Cross, RowRoom, nearest, rowPart, positivesThere}
 
 -- a row of the window lies within the buffer
 pub room-row : {w h r x y n : ℕ} → Room w h r x y n → {yy : ℕ} → yy < y + r + 1 → RowRoom w x r yy n

@@ -13,7 +13,7 @@ use Rattle.params.specs.declared.answers.Answer.the-variants.{Complete, ListFul
 use Rattle.params.specs.declared.answers.Outcome.{Outcome}
 use Rattle.params.specs.declared.settings.RadonDetectorParams.{RadonDetectorParams}
 use Rattle.params.specs.Answers.{numberOf, refused}
-use Rattle.params.specs.Refusals.{pick, orElse, mapRefusal, listRefusal, roomRefusal}
+use Rattle.params.specs.Refusals.{orElse, mapRefusal, listRefusal, roomRefusal}
 use Rattle.detect.specs.Corners.{corners, numbers, stride}
 
 -- 2 a working side over 8,192, twice the input's 4,096; 4 W·H over 8,388,608

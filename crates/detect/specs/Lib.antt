@@ -1,11 +1,8 @@
 -- The list: document 01's rules in the document's order, then what the private functions hand each other.
-pub mod Saddle
-pub mod PeakFit
 pub mod Maximum
 pub mod Window
 pub mod Corners
 pub mod Detected
-pub mod Around
 pub mod Crests
 pub mod Room
 pub mod Scan

@@ -13,8 +13,8 @@ use Rattle.params.specs.declared.settings.RadonDetectorParams.{RadonDetectorPar
 use Rattle.params.specs.Settings.{rayOf}
 use Rattle.detect.specs.declared.verdict.Verdict.{Verdict}
 use Rattle.detect.specs.declared.verdict.Scan.{Scan}
-use Rattle.detect.specs.Saddle.{saddleOf}
-use Rattle.detect.specs.PeakFit.{fitOf}
+use Rattle.saddle.specs.Saddle.{saddleOf}
+use Rattle.peak_fit.specs.PeakFit.{fitOf}
 use Rattle.detect.specs.Maximum.{entry}
 use Rattle.detect.specs.Corners.{borderOf, floorOf, isKept, verdict, corners, stride, numbers}
 

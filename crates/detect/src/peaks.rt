@@ -7,8 +7,6 @@
 // rules. A kept one is counted, and while the list has room its three numbers are stored as the next of the list.
 use super::crests::next_candidate;
 use super::maximum::max_response;
-use super::peak_fit::fit_peak_frac;
-use super::saddle::new;
 use super::verdict::Scan;
 use super::verdict::is_kept;
 use super::verdict::judge_at;
@@ -17,7 +15,6 @@ use params::PeakFitMode;
 use params::RadonDetectorParams;
 use params::Working;
 use peak_fit::fit_peak_frac;
-use saddle::SaddleTest;
 use saddle::new;
 ghost use mathlib.Core.Path.{_≡_};
 ghost use Prim.Native.Nat.{_+_, _*_, _/_, _<_, _≤_};

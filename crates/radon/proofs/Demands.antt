@@ -125,11 +125,11 @@ module _ (img : List ℕ) (w h : ℕ) (p : RadonDetectorParams) (b : Buffers) (a
   -- "upsampling is a rounded quarter-sum": the four pixels are named
   pub upsampling-is-quarter-sum : factor ≡ 2 → (x y : ℕ) → x < W → y < H
       → working x y ≡ quarter (image (x / 2) (y / 2)) (image (near w x) (y / 2)) (image (x / 2) (near h y)) (image (near w x) (near h y))
-  upsampling-is-quarter-sum e x y u v = working-is img w h p b accepted x y u v ∙ work-doubled image w h x y e
+  upsampling-is-quarter-sum e x y u v = working-is img w h p b accepted x y u v ∙ work-doubled factor image w h x y e
 
   -- "Factor 1 copies"
   pub factor-one-copies : factor ≡ 1 → (x y : ℕ) → x < W → y < H → working x y ≡ image x y
-  factor-one-copies e x y u v = working-is img w h p b accepted x y u v ∙ work-copied image w h x y e
+  factor-one-copies e x y u v = working-is img w h p b accepted x y u v ∙ work-copied factor image w h x y e
 
   -- "the unblurred response is the squared spread of four directly summed rays", exactly that whole number
   pub response-is-squared-spread : Bytes img → p .«response_blur_radius» ≡ 0 → (x y : ℕ) → Inside W H ray x y

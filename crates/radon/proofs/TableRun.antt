@@ -22,8 +22,8 @@ use Rattle.rays.specs.Response.{raySpread, square, responseAt}
 use Rattle.blur.specs.Blur.{blurAt}
 use Rattle.response.specs.Map.{rawAt, mapAt, sideOf, mapOf}
 use Rattle.detect.specs.Window.{beaten, positives}
-use Rattle.detect.specs.Saddle.{saddleOf, saddleAt, disk}
-use Rattle.detect.specs.PeakFit.{fitOf}
+use Rattle.saddle.specs.Saddle.{saddleOf, saddleAt, disk}
+use Rattle.peak_fit.specs.PeakFit.{fitOf}
 use Rattle.detect.specs.Maximum.{maximum}
 use Rattle.detect.specs.Corners.{corners, verdict, floorOf, inputAt, numbers}
 use Rattle.radon.specs.Finder.{found}

@@ -6,37 +6,37 @@ use params::RadonDetectorParams;
 use response::radon_response_u8;
 use sizes::lesser;
 
-// Each buffer but the list needs an entry for every working pixel; the list takes three numbers a corner: x, y, strength.
+// Each buffer but the list needs an entry for every work pixel; the list takes three numbers a corner: x, y, strength.
 pub fn radon_corners_u8(
     img: &[u8],
     w: usize,
     h: usize,
     p: RadonDetectorParams,
-    working: &mut [u8],
+    work: &mut [u8],
     row: &mut [u32],
     col: &mut [u32],
-    falling: &mut [u32],
-    rising: &mut [u32],
-    response: &mut [f32],
+    fall: &mut [u32],
+    rise: &mut [u32],
+    resp: &mut [f32],
     scratch: &mut [f32],
     list: &mut [f32],
 ) -> Outcome
     ensures answer { λ r. ⌜ r ≡ outcomeOf (now (img .entry)) w h p
-        (lent (now (working .entry)) (now (row .entry)) (now (col .entry)) (now (falling .entry)) (now (rising .entry))
-        (now (response .entry)) (now (scratch .entry)) (now (list .entry))) ⌝ }
-    ensures buffers { λ _. ⌜ lent (now (working .exit)) (now (row .exit)) (now (col .exit)) (now (falling .exit)) (now (rising .exit))
-        (now (response .exit)) (now (scratch .exit)) (now (list .exit))
+        (lent (now (work .entry)) (now (row .entry)) (now (col .entry)) (now (fall .entry)) (now (rise .entry))
+        (now (resp .entry)) (now (scratch .entry)) (now (list .entry))) ⌝ }
+    ensures buffers { λ _. ⌜ lent (now (work .exit)) (now (row .exit)) (now (col .exit)) (now (fall .exit)) (now (rise .exit))
+        (now (resp .exit)) (now (scratch .exit)) (now (list .exit))
         ≡ buffersOf (now (img .entry)) w h p
-        (lent (now (working .entry)) (now (row .entry)) (now (col .entry)) (now (falling .entry)) (now (rising .entry))
-        (now (response .entry)) (now (scratch .entry)) (now (list .entry))) ⌝ }
+        (lent (now (work .entry)) (now (row .entry)) (now (col .entry)) (now (fall .entry)) (now (rise .entry))
+        (now (resp .entry)) (now (scratch .entry)) (now (list .entry))) ⌝ }
 {
-    let tables = lesser(lesser(row.len(), col.len()), lesser(falling.len(), rising.len()));
-    let floats = lesser(response.len(), scratch.len());
-    let room = lesser(working.len(), lesser(tables, floats));
-    let answer = params::judge(w, h, img.len(), p, room);
+    let tables = lesser(lesser(row.len(), col.len()), lesser(fall.len(), rise.len()));
+    let floats = lesser(resp.len(), scratch.len());
+    let room = lesser(work.len(), lesser(tables, floats));
+    let answer = params::judge_finder_call(w, h, img.len(), p, room);
     if answer.number() != 0 {
         return Outcome::refusal(answer);
     }
-    let map = radon_response_u8(img, w, h, p, working, row, col, falling, rising, response, scratch);
-    detect::detect_peaks_from_radon(response, working, map.w, map.h, p, list)
+    let map = radon_response_u8(img, w, h, p, work, row, col, fall, rise, resp, scratch);
+    detect::detect_peaks_from_radon(resp, work, map.w, map.h, p, list)
 }

@@ -61,7 +61,7 @@ module _ (factor ray blur : ℕ) (f : ℕ → ℕ → ℕ) (w h : ℕ) (b : Buff
   rays-is {working} e l =
       let at = work-at e l in
       let table : (d : Way) (old : List ℕ) → tableOf d (pixel working W) W H old ≡ tableOf d work W H old =
-          λ d old. table-same d (pixel working W) work W H old at in
+      λ d old. table-same d (pixel working W) work W H old at in
       let response = plane-ext W H _ _ (b .response) (λ x y _ _. response-ext (pixel working W) work W H ray x y at) in
       λ i. tabled (table along (b .row) i) (table down (b .col) i) (table fall (b .falling) i) (table rise (b .rising) i) (response i)
 

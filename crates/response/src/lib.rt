@@ -18,11 +18,11 @@ pub struct Mapped {
 }
 
 // The least of seven lengths: that of the working image, of the four tables, of response and scratch.
-fn shortest(i: usize, row: usize, col: usize, fall: usize, rise: usize, resp: usize, s: usize) -> usize
-    ensures { λ r. ⌜ r ≡ min i (min (min (min row col) (min fall rise)) (min resp s)) ⌝ }
+fn shortest(i: usize, a: usize, b: usize, c: usize, d: usize, r: usize, s: usize) -> usize
+    ensures { λ m. ⌜ m ≡ min i (min (min (min a b) (min c d)) (min r s)) ⌝ }
 {
-    let tables = lesser(lesser(row, col), lesser(fall, rise));
-    lesser(i, lesser(tables, lesser(resp, s)))
+    let tables = lesser(lesser(a, b), lesser(c, d));
+    lesser(i, lesser(tables, lesser(r, s)))
 }
 
 // The dense response of an image, over buffers that the caller lends: each needs an entry for every working pixel.

@@ -8,7 +8,7 @@ use Rattle.params.specs.declared.answers.Answer.the-variants.{Mode}
 use Rattle.params.specs.declared.answers.Outcome.{Outcome}
 use Rattle.params.specs.declared.settings.RadonDetectorParams.{RadonDetectorParams}
 use Rattle.params.specs.Answers.{numberOf, refused}
-use Rattle.detect.specs.Detected.{outcomeOf as peaksOutcome, listOf}
+use Rattle.detect.specs.Detected.{peaksOutcome, listOf}
 use Rattle.radon.specs.Finder.{Buffers, outcomeOf, buffersOf}
 use Rattle.response.specs.declared.Mapped.{Mapped}
 use Rattle.response.specs.Map.{Buffers as MapBuffers, mappedOf, mapBuffersOf}

@@ -1,15 +1,14 @@
 -- What a call's numbers mean, and what it reports in numbers. Corners, map and buffers are those of the crates beneath.
-use mathlib.Core.Bool.{Bool, true, false, cond}
 use mathlib.Core.List.{List}
 use Prim.Native.Nat.{ℕ}
-use lib.Dec.{ltb, eqb}
 use lib.Ieee.{Float}
 use Rattle.params.specs.declared.settings.PeakFitMode.{PeakFitMode}
-use Rattle.params.specs.declared.settings.PeakFitMode.the-variants.{Parabolic, Gaussian}
+use Rattle.params.specs.declared.settings.NumberedMode.{NumberedMode}
+use Rattle.params.specs.declared.settings.NumberedMode.the-variants.{Known, Refused}
 use Rattle.params.specs.declared.settings.RadonDetectorParams.{RadonDetectorParams}
 use Rattle.params.specs.declared.answers.Answer.the-variants.{Mode}
 use Rattle.params.specs.declared.answers.Outcome.{Outcome}
-use Rattle.params.specs.Settings.{defaults}
+use Rattle.params.specs.Settings.{defaults, modeNumbered}
 use Rattle.params.specs.Answers.{numberOf, refused}
 use Rattle.response.specs.declared.Mapped.{Mapped}
 use Rattle.detect.specs.Detected.{peaksOutcome, listOf}
@@ -19,24 +18,23 @@ use Rattle.steyrbunk_c.specs.declared.Settings.the-variants.{Given, NoSu
 
 -- ---- numbers in
 
--- "mode (0 parabolic, 1 Gaussian)"
-abbrev pub modeOf : Bool → PeakFitMode
-modeOf true = Parabolic
-modeOf false = Gaussian
+-- a mode that is known, or "14 mode above 1"
+abbrev pub settingsBy : (PeakFitMode → RadonDetectorParams) → NumberedMode → Settings
+settingsBy p (Known fit) = Given (p fit)
+settingsBy p (Refused answer) = NoSuchMode
 
--- the settings in the order of their record; "14 mode above 1"
+-- the settings in the order of their record
 abbrev pub settingsOf : ℕ → ℕ → ℕ → ℕ → Float → ℕ → ℕ → Settings
 settingsOf ray up blur fit threshold nms least =
-    cond (ltb 1 fit) NoSuchMode
-    (Given (record {
+    settingsBy (λ m. record {
       «ray_radius» = ray;
       «image_upsample» = up;
       «response_blur_radius» = blur;
-      «peak_fit» = modeOf (eqb fit 0);
+      «peak_fit» = m;
       «threshold_rel» = threshold;
       «nms_radius» = nms;
       «min_cluster_size» = least;
-    }))
+    }) (modeNumbered fit)
 
 -- the map's own entry takes the three settings that a map goes by: the others are the defaults
 abbrev pub mapSettings : ℕ → ℕ → ℕ → RadonDetectorParams

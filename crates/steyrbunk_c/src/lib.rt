@@ -2,16 +2,16 @@
 // number. A slice is a pointer and a length there. The header in tools/steyrbunk/include explains each argument.
 ghost use mathlib.Core.Path.{_≡_};
 ghost use lib.ListN.{length};
-ghost use lib.Dec.{eqb};
 ghost use Rattle.scalar.specs.Log.{logOf, terms, high};
 ghost use Rattle.scalar.specs.Root.{rootOf};
 ghost use Rattle.params.specs.Answers.{numberOf};
 ghost use Rattle.response.specs.Map.{mapLent, mappedOf, mapBuffersOf};
 ghost use Rattle.radon.specs.Finder.{lent};
-ghost use Rattle.steyrbunk_c.specs.Called.{modeOf, settingsOf, mapSettings, reported, told, mapReported, mapTold};
+ghost use Rattle.steyrbunk_c.specs.Called.{settingsOf, mapSettings, reported, told, mapReported, mapTold};
 ghost use Rattle.steyrbunk_c.specs.Called.{calledOutcome, calledBuffers, calledPeaks, calledList};
 ghost use Rattle.steyrbunk_c.specs.OrNan.{rootOrNan, logOrNan};
 use params::Answer;
+use params::NumberedMode;
 use params::Outcome;
 use params::PeakFitMode;
 use params::RadonDetectorParams;
@@ -27,38 +27,21 @@ enum Settings {
     NoSuchMode,
 }
 
-fn settings_of(
-    ray: u32,
-    up: u32,
-    blur: u32,
-    fit: u32,
-    threshold: f32,
-    nms: u32,
-    least: u32,
-) -> Settings
-    ensures { λ r. ⌜ r ≡ settingsOf ray up blur fit threshold nms least ⌝ }
+fn settings_of(ray: u32, up: u32, blur: u32, fit: u32, rel: f32, nms: u32, least: u32) -> Settings
+    ensures { λ r. ⌜ r ≡ settingsOf ray up blur fit rel nms least ⌝ }
 {
-    if fit > 1 {
+    let NumberedMode::Known(peak_fit) = PeakFitMode::of_number(fit) else {
         return Settings::NoSuchMode;
-    }
+    };
     Settings::Given(RadonDetectorParams {
         ray_radius: ray,
         image_upsample: up,
         response_blur_radius: blur,
-        peak_fit: mode_of(fit),
-        threshold_rel: threshold,
+        peak_fit,
+        threshold_rel: rel,
         nms_radius: nms,
         min_cluster_size: least,
     })
-}
-
-fn mode_of(fit: u32) -> PeakFitMode
-    ensures { λ r. ⌜ r ≡ modeOf (eqb fit 0) ⌝ }
-{
-    if fit == 0 {
-        return PeakFitMode::Parabolic;
-    }
-    PeakFitMode::Gaussian
 }
 
 // An outcome as the caller sees it: three numbers through references, and the answer's.
@@ -88,29 +71,29 @@ pub extern "C" fn steyrbunk_find(
     work: &mut [u8],
     row: &mut [u32],
     col: &mut [u32],
-    falling: &mut [u32],
-    rising: &mut [u32],
+    fall: &mut [u32],
+    rise: &mut [u32],
     resp: &mut [f32],
     scratch: &mut [f32],
-    list: &mut [f32],
+    out: &mut [f32],
     count: &mut usize,
     ww: &mut usize,
     wh: &mut usize,
 ) -> u32
     ensures told { λ r. ⌜ reported r (now (count .exit)) (now (ww .exit)) (now (wh .exit))
         ≡ told (calledOutcome (settingsOf ray up blur fit threshold nms least) (now (img .entry)) w h
-        (lent (now (work .entry)) (now (row .entry)) (now (col .entry)) (now (falling .entry)) (now (rising .entry))
-        (now (resp .entry)) (now (scratch .entry)) (now (list .entry)))) ⌝ }
-    ensures buffers { λ _. ⌜ lent (now (work .exit)) (now (row .exit)) (now (col .exit)) (now (falling .exit)) (now (rising .exit))
-        (now (resp .exit)) (now (scratch .exit)) (now (list .exit))
+        (lent (now (work .entry)) (now (row .entry)) (now (col .entry)) (now (fall .entry)) (now (rise .entry))
+        (now (resp .entry)) (now (scratch .entry)) (now (out .entry)))) ⌝ }
+    ensures buffers { λ _. ⌜ lent (now (work .exit)) (now (row .exit)) (now (col .exit)) (now (fall .exit)) (now (rise .exit))
+        (now (resp .exit)) (now (scratch .exit)) (now (out .exit))
         ≡ calledBuffers (settingsOf ray up blur fit threshold nms least) (now (img .entry)) w h
-        (lent (now (work .entry)) (now (row .entry)) (now (col .entry)) (now (falling .entry)) (now (rising .entry))
-        (now (resp .entry)) (now (scratch .entry)) (now (list .entry))) ⌝ }
+        (lent (now (work .entry)) (now (row .entry)) (now (col .entry)) (now (fall .entry)) (now (rise .entry))
+        (now (resp .entry)) (now (scratch .entry)) (now (out .entry))) ⌝ }
 {
     let Settings::Given(p) = settings_of(ray, up, blur, fit, threshold, nms, least) else {
         return tell(Outcome::refusal(Answer::Mode), count, ww, wh);
     };
-    let o = radon_corners_u8(img, w, h, p, work, row, col, falling, rising, resp, scratch, list);
+    let o = radon_corners_u8(img, w, h, p, work, row, col, fall, rise, resp, scratch, out);
     tell(o, count, ww, wh)
 }
 
@@ -138,35 +121,35 @@ pub extern "C" fn steyrbunk_response(
     ray: u32,
     up: u32,
     blur: u32,
-    working: &mut [u8],
+    work: &mut [u8],
     row: &mut [u32],
     col: &mut [u32],
-    falling: &mut [u32],
-    rising: &mut [u32],
-    response: &mut [f32],
+    fall: &mut [u32],
+    rise: &mut [u32],
+    resp: &mut [f32],
     scratch: &mut [f32],
     ww: &mut usize,
     wh: &mut usize,
 ) -> u32
     ensures told { λ r. ⌜ mapReported r (now (ww .exit)) (now (wh .exit))
         ≡ mapTold (mappedOf (now (img .entry)) w h (mapSettings ray up blur)
-        (mapLent (now (working .entry)) (now (row .entry)) (now (col .entry)) (now (falling .entry)) (now (rising .entry))
-        (now (response .entry)) (now (scratch .entry)))) ⌝ }
-    ensures buffers { λ _. ⌜ mapLent (now (working .exit)) (now (row .exit)) (now (col .exit)) (now (falling .exit)) (now (rising .exit))
-        (now (response .exit)) (now (scratch .exit))
+        (mapLent (now (work .entry)) (now (row .entry)) (now (col .entry)) (now (fall .entry)) (now (rise .entry))
+        (now (resp .entry)) (now (scratch .entry)))) ⌝ }
+    ensures buffers { λ _. ⌜ mapLent (now (work .exit)) (now (row .exit)) (now (col .exit)) (now (fall .exit)) (now (rise .exit))
+        (now (resp .exit)) (now (scratch .exit))
         ≡ mapBuffersOf (now (img .entry)) w h (mapSettings ray up blur)
-        (mapLent (now (working .entry)) (now (row .entry)) (now (col .entry)) (now (falling .entry)) (now (rising .entry))
-        (now (response .entry)) (now (scratch .entry))) ⌝ }
+        (mapLent (now (work .entry)) (now (row .entry)) (now (col .entry)) (now (fall .entry)) (now (rise .entry))
+        (now (resp .entry)) (now (scratch .entry))) ⌝ }
 {
     let p = map_settings(ray, up, blur);
-    let m = radon_response_u8(img, w, h, p, working, row, col, falling, rising, response, scratch);
+    let m = radon_response_u8(img, w, h, p, work, row, col, fall, rise, resp, scratch);
     let answer = m.answer;
     *ww = m.w;
     *wh = m.h;
     answer.number()
 }
 
-// The list of a map over its working image, both w wide and h high.
+// The list of a map over its work image, both w wide and h high.
 #[no_mangle]
 pub extern "C" fn steyrbunk_peaks(
     response: &[f32],

@@ -161,7 +161,7 @@ pub fn detect_peaks_from_radon<'a, 'l>(
     params: RadonDetectorParams,
     list: &'l mut [f32],
 ) -> Outcome
-    ensures answer { λ r. ⌜ r ≡ outcomeOf params (resp .entry .w) (resp .entry .h)
+    ensures answer { λ r. ⌜ r ≡ peaksOutcome params (resp .entry .w) (resp .entry .h)
         (now (resp .entry .«data»)) (now (resp .entry .image)) (length (now (list .entry))) ⌝ }
     ensures written { λ _. ⌜ now (list .exit) ≡ listOf params (resp .entry .w) (resp .entry .h)
         (now (resp .entry .«data»)) (now (resp .entry .image)) (now (list .entry)) ⌝ }

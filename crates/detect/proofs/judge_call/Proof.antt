@@ -61,8 +61,8 @@ returns-2 c =
     let j = judged c in
     let s = passed j in
     stage-passes _ _ (sized s .judge-working-size .ensures) (s .before .number .ensures) (s .if1 .left)
-    (stages-joined (j .before .before .judge-map .ensures)
-    (stages-joined (j .before .judge-list .ensures) (j .judge-room .ensures) (c .before .or-else .ensures))
+    (stages-joined (j .before .before .judge-map-settings .ensures)
+    (stages-joined (j .before .judge-list-settings .ensures) (j .judge-room .ensures) (c .before .or-else .ensures))
     (c .or-else2 .ensures))
 
 pub judge-call-spec : {M : Type 1} → statement M

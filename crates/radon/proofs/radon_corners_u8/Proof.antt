@@ -12,13 +12,13 @@ use Rattle.radon.proofs.radon_corners_u8.Tie as tie
 -- ---- the ways back
 
 -- from the answer to the start, and what was lent there
-abbrev start : tie.After-judge → tie.Start
+abbrev start : tie.After-judge-finder-call → tie.Start
 start c = c .before .before .before .before .before .before .before .before .before .before .before .before .before .before .before .before
 
-abbrev given : tie.After-judge → Buffers
+abbrev given : tie.After-judge-finder-call → Buffers
 given c =
     let o = start c .args in
-    lent (now (o .working)) (now (o .row)) (now (o .col)) (now (o .falling)) (now (o .rising)) (now (o .response)) (now (o .scratch)) (now (o .list))
+    lent (now (o .work)) (now (o .row)) (now (o .col)) (now (o .fall)) (now (o .rise)) (now (o .resp)) (now (o .scratch)) (now (o .list))
 
 -- from the end to the call that makes the map, and from there to the answer's number and to the answer
 abbrev the-map : tie.After-slice-known16 → tie.After-radon-response-u8
@@ -29,7 +29,7 @@ the-map c =
 abbrev number-0 : tie.After-radon-response-u8 → tie.Else1
 number-0 c = c .before .before .before .before .before .before .before .before
 
-room-is : (c : tie.After-judge) → c .before .lesser6 .result ≡ roomOf (given c .map)
+room-is : (c : tie.After-judge-finder-call) → c .before .lesser6 .result ≡ roomOf (given c .map)
 room-is c =
     let four = c .before .before .before in
     room-by (given c .map) (four .before .before .before .lesser .ensures) (four .before .before .lesser2 .ensures) (four .before .lesser3 .ensures)
@@ -53,8 +53,8 @@ lesser-requires-5 c κs = tt
 lesser-requires-6 : tie.Need-lesser-requires-6
 lesser-requires-6 c κs = tt
 
-judge-requires : tie.Need-judge-requires
-judge-requires c κs = tt
+judge-finder-call-requires : tie.Need-judge-finder-call-requires
+judge-finder-call-requires c κs = tt
 
 number-requires : tie.Need-number-requires
 number-requires c κs = tt
@@ -66,7 +66,7 @@ returns : tie.Need-returns
 returns c =
     let j = c .before .before .before in
     let o = start j .args in
-    when-refused (now (o .img)) (o .w) (o .h) (o .p) (given j) (room-is j) (j .judge .ensures)
+    when-refused (now (o .img)) (o .w) (o .h) (o .p) (given j) (room-is j) (j .judge-finder-call .ensures)
     (c .before .before .number .ensures) (c .before .if1 .taken) (c .refusal .ensures)
 
 radon-response-u8-requires : tie.Need-radon-response-u8-requires
@@ -106,13 +106,13 @@ returns-2 c =
     let j = z .before .before in
     let o = start j .args in
     let list = c .before .before .detect-peaks-from-radon in
-    when-accepted (now (o .img)) (o .w) (o .h) (o .p) (given j) (room-is j) (j .judge .ensures) (z .before .number .ensures) (z .if1 .left)
+    when-accepted (now (o .img)) (o .w) (o .h) (o .p) (given j) (room-is j) (j .judge-finder-call .ensures) (z .before .number .ensures) (z .if1 .left)
     (m .radon-response-u8 .ensures .0) (m .radon-response-u8 .ensures .1) (list .ensures .0) (list .ensures .1)
 
 pub radon-corners-u8-spec : {M : Type 1} → statement M
 radon-corners-u8-spec =
     tie.close
     (tie.spec lesser-requires lesser-requires-2 lesser-requires-3 lesser-requires-4 lesser-requires-5 lesser-requires-6
-    judge-requires number-requires refusal-requires returns
+    judge-finder-call-requires number-requires refusal-requires returns
     radon-response-u8-requires detect-peaks-from-radon-requires
     same-length same-length-2 same-length-3 same-length-4 same-length-5 same-length-6 same-length-7 same-length-8 returns-2)

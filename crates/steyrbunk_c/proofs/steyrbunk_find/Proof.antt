@@ -22,7 +22,7 @@ settings s =
 abbrev given : tie.Start → Buffers
 given s =
     let o = s .args in
-    lent (now (o .work)) (now (o .row)) (now (o .col)) (now (o .falling)) (now (o .rising)) (now (o .resp)) (now (o .scratch)) (now (o .list))
+    lent (now (o .work)) (now (o .row)) (now (o .col)) (now (o .fall)) (now (o .rise)) (now (o .resp)) (now (o .scratch)) (now (o .out))
 
 -- from a refusal that is told to where it is made
 abbrev refused-by : tie.After-tell → tie.After-refusal

@@ -20,7 +20,7 @@ start c = c .before .before .before .before .before .before .before .before .bef
 abbrev given : tie.Start → Buffers
 given s =
     let o = s .args in
-    mapLent (now (o .working)) (now (o .row)) (now (o .col)) (now (o .falling)) (now (o .rising)) (now (o .response)) (now (o .scratch))
+    mapLent (now (o .work)) (now (o .row)) (now (o .col)) (now (o .fall)) (now (o .rise)) (now (o .resp)) (now (o .scratch))
 
 map-settings-requires : tie.Need-map-settings-requires
 map-settings-requires c κs = tt

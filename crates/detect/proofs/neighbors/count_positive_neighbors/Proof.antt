@@ -2,16 +2,11 @@
 use mathlib.Core.Path.{_≡_}
 use Prim.Native.Nat.{ℕ, _+_}
 use native.Mathlib.Omega.{arith}
-use mathlib.Core.List.{List}
-use lib.ListN.{length}
-use lib.Ieee.{Float, lt}
-use Rattle.float.specs.Values.{f0}
-use Rattle.grid.specs.Each.{count}
-use Rattle.grid.proofs.Each.{count-none, count-append, count-most}
-use Rattle.grid.specs.Rect.{Place, place, line}
-use Rattle.grid.proofs.Rect.{Down, down-none, down-row, down-all, length-line}
-use Rattle.detect.specs.Window.{value, at, window}
-use Rattle.detect.proofs.Windows.{room-row, part-length, part-count, positives-more, positives-same}
+use Rattle.grid.specs.Rect.{place}
+use Rattle.grid.specs.Ways.{value}
+use Rattle.detect.specs.Window.{positives}
+use Rattle.detect.proofs.Windows.{positives-more, positives-same}
+use borrow.Author.Needs.{needs}
 use Rattle.detect.proofs.neighbors.count_positive_neighbors.Statement.{statement}
 use Rattle.detect.proofs.neighbors.count_positive_neighbors.Tie as tie
 

@@ -1,16 +1,7 @@
 -- `detect::neighbors::is_local_max` meets its contract. The invariant: none of the rows passed has a greater value. Assumes nothing.
 use Prim.Native.Nat.{_-_}
 use native.Mathlib.Omega.{arith}
-use mathlib.Core.Bool.{false}
-use lib.ListN.{length}
-use mathlib.Core.List.{List}
-use lib.Ieee.{Float, lt}
-use Rattle.grid.specs.Each.{any}
-use Rattle.grid.proofs.Each.{any-none, any-append}
-use Rattle.grid.specs.Rect.{Place}
-use Rattle.grid.proofs.Rect.{Down, down-none, down-row, down-all}
-use Rattle.detect.specs.Window.{value, at}
-use Rattle.detect.proofs.Windows.{room-row, nearest-beats, beaten-is, part-free, part-beats}
+use Rattle.detect.proofs.Windows.{room-row, cross, FreeTo, free-none, free-more, beaten-near, beaten-row, unbeaten}
 use Rattle.detect.proofs.neighbors.is_local_max.Statement.{statement}
 use Rattle.detect.proofs.neighbors.is_local_max.Tie as tie
 

@@ -9,7 +9,7 @@ use Rattle.grid.specs.Each.{count}
 use Rattle.grid.proofs.Each.{count-none, count-yes, count-no}
 use Rattle.grid.specs.Rect.{range}
 use Rattle.grid.proofs.Rect.{range-none, range-more}
-use Rattle.detect.specs.Above.{over}
+use Rattle.detect.specs.Crests.{over}
 use Rattle.detect.proofs.neighbors.positive_in.Statement.{statement}
 use Rattle.detect.proofs.neighbors.positive_in.Tie as tie
 

@@ -2,14 +2,7 @@
 -- Assumes nothing.
 use Prim.Native.Nat.{_-_}
 use native.Mathlib.Omega.{arith}
-use mathlib.Core.Logic.{inl, inr}
-use lib.ListN.{length}
-use Rattle.grid.proofs.Plane.{row-in}
-use Rattle.grid.specs.Ways.{pixel}
-use Rattle.detect.specs.Window.{value}
-use Rattle.detect.specs.Corners.{borderOf, isKept}
-use Rattle.detect.specs.Scan.{Candidate}
-use Rattle.detect.proofs.Scanning.{Scanned, scan-none, scan-all, near-room, rowPart, row-length, run-over, turn-no, turn-full, turn-put, nearer}
+use Rattle.detect.proofs.Scanning.{Scanned, scan-none, scan-on, scan-turn, scan-all, candidate, nearer}
 use borrow.Author.Needs.{needs}
 use Rattle.detect.proofs.peaks.find_in_row.Statement.{statement}
 use Rattle.detect.proofs.peaks.find_in_row.Tie as tie

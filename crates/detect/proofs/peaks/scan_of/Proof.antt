@@ -26,7 +26,7 @@ cast-k : tie.Need-cast-k
 cast-k c = search needs
 
 new-requires : tie.Need-new-requires
-new-requires c κs = omega arith
+new-requires c κs = search needs
 
 -- from the end back to the maximum
 abbrev floored : tie.After-new → tie.After-max-response
@@ -36,7 +36,7 @@ returns : tie.Need-returns
 returns c =
     let m = floored c in
     let o = m .before .before .before in
-    scan-is (o .args .params) (o .args .resp .now) (o .args .w) (o .args .h) (o .pre .0) (m .max-response .ensures)
+    scan-is (o .args .params) (o .args .resp .now) (o .args .w) (o .args .h) (o .pre .0) (m .max-response .ensures) (o .pre .1)
     (c .before .ray-radius-clamped .ensures) (c .new .ensures)
 
 pub scan-of-spec : {M : Type 1} → statement M

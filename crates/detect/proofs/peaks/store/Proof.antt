@@ -1,6 +1,7 @@
 -- `detect::peaks::store` meets its contract: three stores, one after the other. Assumes nothing.
 use Prim.Native.Nat.{_*_}
 use lib.ListN.{length-set}
+use native.Mathlib.Omega.{arith}
 use Rattle.grid.proofs.Over.{sets-three}
 use borrow.Author.Needs.{needs}
 use Rattle.detect.proofs.peaks.store.Statement.{statement}

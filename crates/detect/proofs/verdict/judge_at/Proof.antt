@@ -1,7 +1,7 @@
 -- `detect::verdict::judge_at` meets its contract: each answer is the first rule that fails, from what the callees ensure. Assumes nothing.
 use mathlib.Core.Path.{refl}
 use native.Mathlib.Omega.{arith}
-use Rattle.detect.proofs.Scanning.{window-room, not-above, is-beaten, too-few, as-saddle}
+use Rattle.detect.proofs.Scanning.{window-room, disk-room, not-above, is-beaten, too-few, as-saddle}
 use borrow.Author.Needs.{needs}
 use Rattle.detect.proofs.verdict.judge_at.Statement.{statement}
 use Rattle.detect.proofs.verdict.judge_at.Tie as tie
@@ -60,7 +60,8 @@ returns c =
     let o = start (a .before) in
     as-saddle (o .args .scan) (o .args .resp .now) (o .args .image .now) (o .args .x) (o .args .y)
     (a .if1 .taken) (m .is-local-max .ensures) (n .before .if2 .taken) (n .count-positive-neighbors .ensures) (t .if3 .taken)
-    (o .pre .judging .test) (c .before .before .ray-radius-clamped .ensures) (c .before .accepts .ensures) (c .by-saddle .ensures)
+    (o .pre .judging .test) (c .before .before .ray-radius-clamped .ensures)
+    (disk-room (o .pre)) (c .before .accepts .ensures) (c .by-saddle .ensures)
 
 returns-2 : tie.Need-returns-2
 returns-2 c =
