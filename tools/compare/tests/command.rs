@@ -94,7 +94,7 @@ fn files_and_folders() {
     assert_eq!(run(&folder, &["empty"]).1, 1, "nothing to compare");
     let (text, status) = run(&folder, &["frames/b.frame", "missing.frame"]);
     assert_eq!(status, 1);
-    assert!(text.contains("missing.frame: NOT READ: "));
+    assert!(text.contains("missing.frame: NOT COMPARED: "));
     assert!(text.contains("1 frames: 1 agreed, 0 differ, 1 could not be read"));
 }
 
@@ -118,7 +118,113 @@ fn archives() {
     fs::write(folder.join("hostile"), hostile).unwrap();
     let (text, status) = run(&folder, &["--archive", "hostile"]);
     assert_eq!(status, 1);
-    assert!(text.contains("hostile, frame 1: NOT READ: states 4294967300 bytes"));
+    assert!(text.contains("hostile, frame 1: NOT COMPARED: states 4294967300 bytes"));
+}
+
+/// Pictures with the settings of the call, in folders of both kinds; what is no frame is never agreed.
+#[test]
+fn pictures() {
+    let folder = folder("pictures");
+    fs::create_dir_all(folder.join("both")).unwrap();
+    let frame = document_frame();
+    let pgm = [&b"P5 7 7 255\n"[..], &frame.pixels].concat();
+    fs::write(folder.join("both/a.pgm"), &pgm).unwrap();
+    fs::write(folder.join("both/b.frame"), frame.bytes()).unwrap();
+    let settings = [
+        "--ray-radius=1",
+        "--image-upsample=1",
+        "--response-blur-radius=0",
+        "--peak-fit=parabolic",
+        "--nms-radius=1",
+    ];
+    let (text, status) = run(&folder, &[&settings[..], &["both"]].concat());
+    assert_eq!(status, 0, "{text}");
+    assert!(text.contains("both/a.pgm: agreed, 1 corners\nboth/b.frame: agreed, 1 corners\n"));
+    let (text, status) = run(&folder, &["both/a.pgm"]);
+    assert_eq!(status, 0, "{text}");
+    assert!(
+        text.contains("both/a.pgm: agreed, 0 corners"),
+        "the defaults: {text}"
+    );
+    for (name, content) in [
+        ("x.pgm", &b"P2 1 1 255 7"[..]),
+        ("y.pgm", b"P5 9 9 255\n"),
+        ("z", b"\x89PNG\r\n\x1a\n and more"),
+        ("notes.txt", b"a list of what was measured at dawn"),
+    ] {
+        fs::write(folder.join(name), content).unwrap();
+        let (text, status) = run(&folder, &[name]);
+        assert_eq!(status, 1, "{name}: {text}");
+        assert!(
+            text.contains(&format!("{name}: NOT COMPARED: not a frame: ")),
+            "{text}"
+        );
+        assert!(!text.contains(&format!("{name}: agreed")), "{text}");
+    }
+}
+
+/// The program is held line by line: one that answers otherwise is seen, on sound and on damaged files.
+#[cfg(unix)]
+#[test]
+fn the_program_itself() {
+    use std::os::unix::fs::PermissionsExt;
+    let folder = folder("program");
+    let program = |name: &str, script: &str| {
+        let path = folder.join(name);
+        fs::write(&path, format!("#!/bin/sh\n{script}\n")).unwrap();
+        fs::set_permissions(&path, fs::Permissions::from_mode(0o755)).unwrap();
+        path.to_str().unwrap().to_string()
+    };
+    fs::write(folder.join("a.frame"), document_frame().bytes()).unwrap();
+    let list = "7 7 1\\n40400000 40400000 481C4000\\n";
+    let right = program("right", &format!("cat >/dev/null; printf '{list}'"));
+    let (text, status) = run(&folder, &["--program", &right, "a.frame"]);
+    assert_eq!(status, 0, "{text}");
+    for (script, line) in [
+        (
+            format!("cat >/dev/null; printf '{list}'; echo list full"),
+            "line 3",
+        ),
+        (
+            format!("cat >/dev/null; printf '{list}' | head -c 20"),
+            "line 2",
+        ),
+        ("echo refused 5".to_string(), "line 1"),
+        ("exit 1".to_string(), "line 1"),
+        (
+            "cat >/dev/null; printf '7 7 1\\n40400000 40400001 481C4000\\n'".to_string(),
+            "line 2",
+        ),
+    ] {
+        let wrong = program("wrong", &script);
+        let (text, status) = run(&folder, &["--program", &wrong, "a.frame"]);
+        assert_eq!(status, 1, "{script}: {text}");
+        assert!(
+            text.contains(&format!("a.frame: DIFFERS: {line}: the Rust's would be")),
+            "{text}"
+        );
+    }
+    let (text, status) = run(&folder, &["--program", "/nowhere/corners", "a.frame"]);
+    assert_eq!(status, 1, "{text}");
+    // Damaged files among made ones: this one refuses all that it is given, as none of the sound ones should be.
+    let refuses = program("refuses", "cat >/dev/null; echo refused 13");
+    let (text, status) = run(
+        &folder,
+        &[
+            "--program",
+            &refuses,
+            "--seed",
+            "5",
+            "--count",
+            "40",
+            "--damaged",
+        ],
+    );
+    assert_eq!(status, 1);
+    assert!(
+        text.contains("40 frames: ") && !text.contains(" 40 differ"),
+        "{text}"
+    );
 }
 
 #[test]
