@@ -7,7 +7,7 @@ use lib.ListN.{length, getD}
 use lib.Ieee.{Float}
 use Rattle.grid.specs.Ways.{along, down, fall, rise, Holds}
 use Rattle.rays.specs.Response.{responseAt}
-use Rattle.rays.specs.declared.rays.ImageRow.{ImageRow}
+use Rattle.rays.specs.declared.rays.Row.{Row}
 
 -- each entry of the row table less the one before it
 unfoldable pub shown : List ℕ → ℕ → ℕ → ℕ → ℕ
@@ -40,11 +40,11 @@ pub record Between (t : List ℕ) (w x0 y0 x1 y1 : ℕ) : Type 0 where
   pub least : entryAt t w x0 y0 ≤ entryAt t w x1 y1
 
 -- the response in column x of a row
-abbrev pub readAt : List ℕ → ImageRow → ℕ → Float
+abbrev pub readAt : List ℕ → Row → ℕ → Float
 readAt row at x = responseAt (shown row (at .w)) (at .w) (at .h) (at .r) x (at .y)
 
 -- a row that the radius allows, and its tables
-pub record Readable (at : ImageRow) (row col falling rising : List ℕ) : Type 0 where
+pub record Readable (at : Row) (row col falling rising : List ℕ) : Type 0 where
   pub short : at .r ≤ 7
   pub low : at .y < at .h
   pub tables : Held (at .w) (at .h) row col falling rising

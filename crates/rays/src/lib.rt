@@ -7,9 +7,15 @@ ghost use mathlib.Core.Bool.{cond};
 ghost use lib.ListN.{length};
 ghost use Rattle.grid.specs.Ways.{pixel};
 ghost use Rattle.rays.specs.Lent.{tabled, raysOf, raysFit};
-use rays::Size;
 use sizes::fits;
 use sizes::lesser;
+
+// The sides of an image, and the radius of its rays.
+pub struct Size {
+    pub w: usize,
+    pub h: usize,
+    pub r: usize,
+}
 
 // The greatest ray radius.
 const MAX_RAY_RADIUS: usize = 7;
@@ -17,9 +23,7 @@ const MAX_RAY_RADIUS: usize = 7;
 // Each buffer needs an entry for every pixel; where the sizes do not fit, nothing changes.
 pub fn ray_response(
     img: &[u8],
-    w: usize,
-    h: usize,
-    r: usize,
+    size: Size,
     row: &mut [u32],
     col: &mut [u32],
     falling: &mut [u32],
@@ -29,14 +33,14 @@ pub fn ray_response(
     ensures { λ _. ⌜
         tabled (now (row .exit)) (now (col .exit)) (now (falling .exit)) (now (rising .exit)) (now (response .exit))
         ≡ cond
-        (raysFit w h r (length (now (img .entry)))
+        (raysFit (size .w) (size .h) (size .r) (length (now (img .entry)))
         (tabled (now (row .entry)) (now (col .entry)) (now (falling .entry)) (now (rising .entry)) (now (response .entry))))
-        (raysOf (pixel (now (img .entry)) w) w h r
+        (raysOf (pixel (now (img .entry)) (size .w)) (size .w) (size .h) (size .r)
         (tabled (now (row .entry)) (now (col .entry)) (now (falling .entry)) (now (rising .entry)) (now (response .entry))))
         (tabled (now (row .entry)) (now (col .entry)) (now (falling .entry)) (now (rising .entry)) (now (response .entry)))
         ⌝ }
 {
-    if MAX_RAY_RADIUS < r {
+    if MAX_RAY_RADIUS < size.r {
         return;
     }
     let tables = lesser(
@@ -44,8 +48,8 @@ pub fn ray_response(
         lesser(falling.len(), rising.len()),
     );
     let room = lesser(lesser(img.len(), response.len()), tables);
-    if fits(w, h, room) {
-        cumsums::build_cumsums(img, w, h, row, col, falling, rising);
-        rays::compute_response(row, col, falling, rising, Size { w, h, r }, response);
+    if fits(size.w, size.h, room) {
+        cumsums::build_cumsums(img, size.w, size.h, row, col, falling, rising);
+        rays::compute_response(row, col, falling, rising, size, response);
     }
 }

@@ -1,4 +1,5 @@
 // The response at each pixel, from the four tables: a ray's sum is one entry less another.
+use crate::Size;
 ghost use mathlib.Core.Path.{_≡_};
 ghost use Prim.Native.Nat.{_+_, _-_, _*_, _<_, _≤_, min, max};
 ghost use lib.ListN.{length, getD};
@@ -8,15 +9,8 @@ ghost use Rattle.grid.specs.Ways.{Inside, Deep};
 ghost use Rattle.rays.specs.Response.{spread, square, responseAt};
 ghost use Rattle.rays.specs.Shown.{shown, Held, entryAt, Between, readAt, Readable};
 
-// The sides of an image, and the radius of its rays.
-pub struct Size {
-    pub w: usize,
-    pub h: usize,
-    pub r: usize,
-}
-
-// Row y of such an image.
-pub struct ImageRow {
+// Row y of an image, with the sides of the image and the radius of its rays.
+pub struct Row {
     pub w: usize,
     pub h: usize,
     pub r: usize,
@@ -76,15 +70,8 @@ fn between(t: &[u32], w: usize, x0: usize, y0: usize, x1: usize, y1: usize) -> u
 }
 
 // The response at least r from every edge.
-fn radon_response_at(
-    row: &[u32],
-    col: &[u32],
-    falling: &[u32],
-    rising: &[u32],
-    at: ImageRow,
-    x: usize,
-) -> f32
-    requires { ⌜ Inside (at .w) (at .h) (at .r) x (at .y) × Readable at (now row) (now col) (now falling) (now rising) ⌝ }
+fn radon_response_at(row: &[u32], col: &[u32], fall: &[u32], rise: &[u32], at: Row, x: usize) -> f32
+    requires { ⌜ Inside (at .w) (at .h) (at .r) x (at .y) × Readable at (now row) (now col) (now fall) (now rise) ⌝ }
     ensures { λ v. ⌜ v ≡ readAt (now (row .entry)) at x ⌝ }
 {
     let w = at.w;
@@ -96,21 +83,14 @@ fn radon_response_at(
     let y1 = y + r + 1;
     let s_h = between(row, w, x0, y + 1, x1, y + 1);
     let s_v = between(col, w, x + 1, y0, x + 1, y1);
-    let s_d1 = between(falling, w, x0, y0, x1, y1);
-    let s_d2 = between(rising, w, x1 + 1, y0, x0 + 1, y1);
+    let s_d1 = between(fall, w, x0, y0, x1, y1);
+    let s_d2 = between(rise, w, x1 + 1, y0, x0 + 1, y1);
     squared_spread(s_h, s_v, s_d1, s_d2)
 }
 
 // The response at any pixel: 0 nearer than r to an edge.
-fn response_or_zero(
-    row: &[u32],
-    col: &[u32],
-    falling: &[u32],
-    rising: &[u32],
-    at: ImageRow,
-    x: usize,
-) -> f32
-    requires { ⌜ (x < at .w) × Readable at (now row) (now col) (now falling) (now rising) ⌝ }
+fn response_or_zero(row: &[u32], col: &[u32], fall: &[u32], rise: &[u32], at: Row, x: usize) -> f32
+    requires { ⌜ (x < at .w) × Readable at (now row) (now col) (now fall) (now rise) ⌝ }
     ensures { λ v. ⌜ v ≡ readAt (now (row .entry)) at x ⌝ }
 {
     let r = at.r;
@@ -127,25 +107,17 @@ fn response_or_zero(
     if at.h <= y + r {
         return 0.0;
     }
-    radon_response_at(row, col, falling, rising, at, x)
+    radon_response_at(row, col, fall, rise, at, x)
 }
 
 // A row from column a on, as far as `out` goes, by the tests of each pixel.
-fn edge_part(
-    row: &[u32],
-    col: &[u32],
-    falling: &[u32],
-    rising: &[u32],
-    at: ImageRow,
-    a: usize,
-    out: &mut [f32],
-)
-    requires { ⌜ (a + length (now out) ≤ at .w) × Readable at (now row) (now col) (now falling) (now rising) ⌝ }
+fn edges(row: &[u32], col: &[u32], fall: &[u32], rise: &[u32], at: Row, a: usize, out: &mut [f32])
+    requires { ⌜ (a + length (now out) ≤ at .w) × Readable at (now row) (now col) (now fall) (now rise) ⌝ }
     ensures { λ _. ⌜ now (out .exit) ≡ filled (length (now (out .entry))) (λ i. readAt (now (row .entry)) at (a + i)) (now (out .entry)) ⌝ }
 {
     let n = out.len();
     for i in 0..n {
-        out[i] = response_or_zero(row, col, falling, rising, at, a + i);
+        out[i] = response_or_zero(row, col, fall, rise, at, a + i);
     }
 }
 
@@ -157,15 +129,8 @@ fn difference(t: &[u32], i: usize, j: usize) -> u32
 }
 
 // The response where all eight entries are in the image: no branch.
-fn deep_response(
-    row: &[u32],
-    col: &[u32],
-    falling: &[u32],
-    rising: &[u32],
-    at: ImageRow,
-    x: usize,
-) -> f32
-    requires { ⌜ Deep (at .w) (at .h) (at .r) x (at .y) × Readable at (now row) (now col) (now falling) (now rising) ⌝ }
+fn deep_response(row: &[u32], col: &[u32], fall: &[u32], rise: &[u32], at: Row, x: usize) -> f32
+    requires { ⌜ Deep (at .w) (at .h) (at .r) x (at .y) × Readable at (now row) (now col) (now fall) (now rise) ⌝ }
     ensures { λ v. ⌜ v ≡ readAt (now (row .entry)) at x ⌝ }
 {
     let w = at.w;
@@ -176,45 +141,30 @@ fn deep_response(
     let above = (y - r - 1) * w + x;
     let s_h = difference(row, here + r, here - r - 1);
     let s_v = difference(col, below, above);
-    let s_d1 = difference(falling, below + r, above - r - 1);
-    let s_d2 = difference(rising, below - r, above + r + 1);
+    let s_d1 = difference(fall, below + r, above - r - 1);
+    let s_d2 = difference(rise, below - r, above + r + 1);
     squared_spread(s_h, s_v, s_d1, s_d2)
 }
 
 // The same without a test, where the columns are more than r from the left edge and from the right one.
-fn deep_part(
-    row: &[u32],
-    col: &[u32],
-    falling: &[u32],
-    rising: &[u32],
-    at: ImageRow,
-    a: usize,
-    out: &mut [f32],
-)
+fn inner(row: &[u32], col: &[u32], fall: &[u32], rise: &[u32], at: Row, a: usize, out: &mut [f32])
     requires { ⌜
         (at .r < at .y) × (at .y + at .r < at .h) × (at .r < a) × (a + length (now out) + at .r < at .w)
-        × Readable at (now row) (now col) (now falling) (now rising)
+        × Readable at (now row) (now col) (now fall) (now rise)
         ⌝ }
     ensures { λ _. ⌜ now (out .exit) ≡ filled (length (now (out .entry))) (λ i. readAt (now (row .entry)) at (a + i)) (now (out .entry)) ⌝ }
 {
     let n = out.len();
     for i in 0..n {
-        out[i] = deep_response(row, col, falling, rising, at, a + i);
+        out[i] = deep_response(row, col, fall, rise, at, a + i);
     }
 }
 
 // A row more than r from the top and at least r from the bottom.
-fn deep_row(
-    row: &[u32],
-    col: &[u32],
-    falling: &[u32],
-    rising: &[u32],
-    at: ImageRow,
-    out: &mut [f32],
-)
+fn deep_row(row: &[u32], col: &[u32], fall: &[u32], rise: &[u32], at: Row, out: &mut [f32])
     requires { ⌜
         (at .r < at .y) × (at .y + at .r < at .h) × (2 * at .r + 2 ≤ at .w) × (length (now out) ≡ at .w)
-        × Readable at (now row) (now col) (now falling) (now rising)
+        × Readable at (now row) (now col) (now fall) (now rise)
         ⌝ }
     ensures { λ _. ⌜ now (out .exit) ≡ filled (at .w) (readAt (now (row .entry)) at) (now (out .entry)) ⌝ }
 {
@@ -222,21 +172,21 @@ fn deep_row(
     let end = at.w;
     let first = r + 1;
     let last = end - r - 1;
-    edge_part(row, col, falling, rising, at, 0, &mut out[0..first]);
-    deep_part(row, col, falling, rising, at, first, &mut out[first..last]);
-    edge_part(row, col, falling, rising, at, last, &mut out[last..end]);
+    edges(row, col, fall, rise, at, 0, &mut out[0..first]);
+    inner(row, col, fall, rise, at, first, &mut out[first..last]);
+    edges(row, col, fall, rise, at, last, &mut out[last..end]);
 }
 
 // Row y: by the tests of each pixel where it is near the top or the bottom, or the image narrow.
 fn compute_response_row(
     row: &[u32],
     col: &[u32],
-    falling: &[u32],
-    rising: &[u32],
-    at: ImageRow,
+    fall: &[u32],
+    rise: &[u32],
+    at: Row,
     out: &mut [f32],
 )
-    requires { ⌜ (length (now out) ≡ at .w) × Readable at (now row) (now col) (now falling) (now rising) ⌝ }
+    requires { ⌜ (length (now out) ≡ at .w) × Readable at (now row) (now col) (now fall) (now rise) ⌝ }
     ensures { λ _. ⌜ now (out .exit) ≡ filled (at .w) (readAt (now (row .entry)) at) (now (out .entry)) ⌝ }
 {
     let r = at.r;
@@ -244,26 +194,26 @@ fn compute_response_row(
     if r < y {
         if y + r < at.h {
             if 2 * r + 2 <= at.w {
-                deep_row(row, col, falling, rising, at, out);
+                deep_row(row, col, fall, rise, at, out);
                 return;
             }
         }
     }
-    edge_part(row, col, falling, rising, at, 0, out);
+    edges(row, col, fall, rise, at, 0, out);
 }
 
 // The response of the image that the tables are of.
 pub fn compute_response(
     row: &[u32],
     col: &[u32],
-    falling: &[u32],
-    rising: &[u32],
+    fall: &[u32],
+    rise: &[u32],
     size: Size,
     out: &mut [f32],
 )
     requires { ⌜
         (size .r ≤ 7) × (size .w * size .h ≤ length (now out))
-        × Held (size .w) (size .h) (now row) (now col) (now falling) (now rising)
+        × Held (size .w) (size .h) (now row) (now col) (now fall) (now rise)
         ⌝ }
     ensures { λ _. ⌜ now (out .exit)
         ≡ filled (size .w * size .h)
@@ -275,7 +225,7 @@ pub fn compute_response(
     for y in 0..h {
         let a = y * w;
         let e = a + w;
-        let at = ImageRow { w, h, r, y };
-        compute_response_row(row, col, falling, rising, at, &mut out[a..e]);
+        let at = Row { w, h, r, y };
+        compute_response_row(row, col, fall, rise, at, &mut out[a..e]);
     }
 }

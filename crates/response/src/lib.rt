@@ -6,6 +6,7 @@ use blur::box_blur_inplace;
 use params::Answer;
 use params::RadonDetectorParams;
 use params::judge_map_call;
+use rays::Size;
 use rays::ray_response;
 use sizes::lesser;
 use upsample::upsample;
@@ -68,7 +69,12 @@ pub fn radon_response_u8(
     let ww = (factor as usize) * w;
     let wh = (factor as usize) * h;
     upsample(img, w, h, factor, working);
-    ray_response(working, ww, wh, ray, row, col, falling, rising, response);
+    let size = Size {
+        w: ww,
+        h: wh,
+        r: ray,
+    };
+    ray_response(working, size, row, col, falling, rising, response);
     box_blur_inplace(response, scratch, ww, wh, radius);
     Mapped {
         answer: Answer::Complete,

@@ -2,6 +2,7 @@
 -- then numbers. The view is made of the first four by `new`, of which only its contract is known. A local's
 -- type names no lifetime, so a view in a local has the type with the name erased.
 -- Assumes nothing.
+use mathlib.Core.Path.{_≡_}
 use Prim.Native.Nat.{ℕ}
 use mathlib.Core.List.{List, [], _∷_}
 use lib.Dec.{T as Holds}
@@ -13,24 +14,29 @@ use mir.Val.{Val, WT, hasTy, vint}
 use base.Logic.{SProp, ent, sep}
 use base.Fml.{Lft, Share, Fml}
 use prog.Memory.{Memory}
-use prog.Routine.{Routine}
+use prog.Model.{Model}
+use prog.Routine.{Routine, Env}
 use prog.Wp.{Heap}
 use ghost.Atoms.{Atoms, sem}
 use contract.Monad.{Fun}
+use contract.Running.{Running, GhostRules, tables}
 use types.Kit.{Given, mean, ‵, _⊛_, _$_, _∵_, !, qed, move, use1, split, join, frame, done}
 use denote.Laws.{Is}
 use denote.Ref.{RefT, NamedLft, now, ptr}
 use denote.Slice.{sliceVal, slice-vals}
 use denote.Steps.{nothing}
 use denote.Struct.Laws as LL
-use denote.Triple.Statement.{Contract}
+use denote.Triple.Statement.{Contract, Triple}
 use denote.Triple.Spec.{tripleOf}
+use denote.Triple.Table.{cited}
 use Rattle.view.specs.View.{viewOf}
 use Rattle.view.specs.declared.RadonResponseView.{RadonResponseView}
 use Rattle.view.proofs.Viewed.{ViewAt, Fields, Handed, Token, before}
 use Rattle.view.proofs.RadonResponseView as T
 use Rattle.view.proofs.RadonResponseView.Laws as T′
 use Rattle.view.proofs.RadonResponseView.new as new
+use Rattle.view.proofs.RadonResponseView.new.Symbol as new-def
+use Rattle.view.proofs.RadonResponseView.new.Met as new-thm
 
 -- the machine value of a lent slice
 abbrev pub lent : {X : Type 0} → RefT (List X) → Val
@@ -59,3 +65,10 @@ module _ {M : Type 1} (𝓤 : URA M) (H : Heap 𝓤) (A : Atoms 𝓤) (W : Given
         qed W (Token κ q ∷ ‵ (Handed κ (viewOf s t w h) extra) ∷ []) ∵ move ! (1 ∷ []) $
         use1 W (‵ (Fields κ (viewOf s t w h)) ⊛ ‵ extra) (before 𝓤 H A W κ (viewOf s t w h) extra) $ split ! $
         move ! (2 ∷ 0 ∷ []) $ join ! $ nothing ! $ move ! (1 ∷ 0 ∷ []) $ join ! $ frame ! $ done !
+
+-- `new` is known to meet its contract where the name stands for it
+module _ {M : Type 1} (𝓤 : URA M) (H : Heap 𝓤) (𝓜 : Model 𝓤 H) (𝓖 : GhostRules 𝓤 H) (𝓡 : Running 𝓤 H 𝓜) where
+  pub new-known : (γ : Env) → γ new-def.name ≡ new-def.routine
+      → Triple 𝓤 (tables 𝓤 H 𝓜 𝓡 γ .C new-def.name) (New 𝓤 H (𝓖 .A) (𝓜 .mem) (𝓡 .run))
+  new-known γ e =
+      cited 𝓤 H (New 𝓤 H (𝓖 .A) (𝓜 .mem) (𝓡 .run)) 𝓜 𝓡 γ new-def.name new-def.routine e (new-thm.met 𝓤 H 𝓜 𝓖 𝓡)

@@ -2,5 +2,6 @@
 pub mod Facts
 pub mod Steps
 pub mod Walk
+pub mod Copies
 pub mod Viewed
 pub mod Lent

@@ -23,8 +23,8 @@ use contract.Monad.{fact}
 use contract.Running.{Running, GhostRules, givenOf, tables}
 use types.Kit.{Given, Item, mean, ‵, raw, _⊛_, given as knowing, _$_, _∵_, !, qed, by, move, drop, use1, use2, split, join, learn}
 use types.Kit.{fsplit, fjoin, frame, done}
-use types.Part.{whole, sub, look-in}
-use types.Run.{look, init, forget, stop, fld, from, load, of-opd, assigns, returns, enter, alloc1, alloc0, params1, pass1, pass0, free1, free0}
+use types.Part.{whole, sub}
+use types.Run.{look, init, forget, returns, enter, alloc1, alloc0, params1, pass1, pass0, free1, free0}
 use denote.RattleType.{RattleType}
 use denote.Laws.{Is, Tells}
 use denote.Builtin.{u8, f32, usize}
@@ -44,6 +44,7 @@ use denote.Triple.Entry.{onEntry}
 use denote.Triple.Spec.{tripleOf}
 use denote.Triple.Walked.{walkOf}
 use Rattle.view.specs.declared.RadonResponseView.{RadonResponseView}
+use Rattle.view.proofs.Copies.{copies}
 use Rattle.view.proofs.Walk.{gone, ends, met}
 use Rattle.view.proofs.RadonResponseView as T
 use Rattle.view.proofs.RadonResponseView.Laws as T′
@@ -209,7 +210,7 @@ module _ {M : Type 1} (𝓤 : URA M) (H : Heap 𝓤) (A : Atoms 𝓤) (W : Given
     read-walk C Λ {τ} e wt wf =
         qed W (raw Entry ∷ []) ∵ enter ! C Λ (reader τ k) (mach d ∷ []) _ $
         alloc1 ! (λ l₀. alloc1 ! (λ l₁. alloc0 ! $ params1 ! $ pass1 ! (init ! 0 refl wt) $ pass0 ! $
-        assigns ! (of-opd ! (load ! (from ! (fld ! e (stop !))) (look-in ! 0 (sub ! k e (whole !))))) (from ! (stop !)) (init ! 2 refl wf) $
+        copies ! 0 e (sub ! k e (whole !)) (init ! 2 refl wf) $
         returns ! (look ! 2 refl) $ forget ! 0 refl $ forget ! 2 refl $ move ! (2 ∷ 3 ∷ []) $ free1 ! $ free1 ! $ free0 ! $ by ! read-ends))
 
 module _ {M : Type 1} (𝓤 : URA M) (H : Heap 𝓤) (𝓜 : Model 𝓤 H) (𝓖 : GhostRules 𝓤 H) (𝓡 : Running 𝓤 H 𝓜) where

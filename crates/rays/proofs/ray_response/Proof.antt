@@ -30,15 +30,15 @@ at-fits c = c .before .before .before .before .before
 abbrev at-radius : tie.After-fits2 → tie.Else1
 at-radius c = c .before .before .before .before .before .before
 
-abbrev image-known : tie.After-slice-known5 → tie.After-shared-slice-known
-image-known c = c .before .before .before .before .before
+abbrev image-known : tie.After-struct-known → tie.After-shared-slice-known
+image-known c = c .before .before .before .before .before .before
 
-abbrev start : tie.After-slice-known5 → tie.Start
+abbrev start : tie.After-struct-known → tie.Start
 start c = image-known c .before
 
 -- the image, and the buffers as they were lent
 abbrev image : tie.Start → ℕ → ℕ → ℕ
-image s = pixel (s .args .img .now) (s .args .w)
+image s = pixel (s .args .img .now) (s .args .size .w)
 
 abbrev lent : tie.Start → Lent
 lent s = tabled (s .args .row .now) (s .args .col .now) (s .args .falling .now) (s .args .rising .now) (s .args .response .now)
@@ -57,25 +57,25 @@ room c =
 
 fit : (c : tie.Then2)
     → let s = begun (c .before) in
-    Fitted (s .args .w) (s .args .h) (s .args .r) (length (s .args .img .now)) (lent s)
+    Fitted (s .args .size .w) (s .args .size .h) (s .args .size .r) (length (s .args .img .now)) (lent s)
 fit c =
     let f = c .before in
     let s = begun f in
-    when-so (image s) (s .args .w) (s .args .h) (s .args .r) (length (s .args .img .now)) (lent s) (room f)
+    when-so (image s) (s .args .size .w) (s .args .size .h) (s .args .size .r) (length (s .args .img .now)) (lent s) (room f)
     (f .fits2 .ensures) (at-radius f .if1 .left) (c .if2 .taken)
 
-small : (c : tie.After-slice-known5) (x y : ℕ) → image (start c) x y ≤ 4095
+small : (c : tie.After-struct-known) (x y : ℕ) → image (start c) x y ≤ 4095
 small c x y =
     omega (
       arith,
-      pixel-most (start c .args .img .now) (start c .args .w)
+      pixel-most (start c .args .img .now) (start c .args .size .w)
           (λ k. omega (arith, image-known c .shared-slice-known .given k)) x y,
     )
 
 returns : tie.Need-returns
 returns c =
     let s = start (c .before) in
-    when-long (image s) (s .args .w) (s .args .h) (s .args .r) (length (s .args .img .now)) (lent s) (c .if1 .taken)
+    when-long (image s) (s .args .size .w) (s .args .size .h) (s .args .size .r) (length (s .args .img .now)) (lent s) (c .if1 .taken)
 
 lesser-requires : tie.Need-lesser-requires
 lesser-requires c κs = search needs
@@ -108,7 +108,7 @@ compute-response-requires c κs =
     let e = b .build-cumsums .ensures in (
       m .short,
       m .response-room,
-      tables-of (record { room = m .row-room; is = e .0 }) (record { room = m .col-room; is = e .1 })
+      tables-of {f = image (begun (t .before))} (record { room = m .row-room; is = e .0 }) (record { room = m .col-room; is = e .1 })
           (record { room = m .falling-room; is = e .2 })
           (record { room = m .rising-room; is = e .3 }) (m .wide) (m .high) (small (at-radius (t .before) .before)),
     )
@@ -135,14 +135,14 @@ returns-2 c =
     let t = at-fits b in
     let s = begun (t .before) in
     let e = b .build-cumsums .ensures in
-    when-done (image s) (s .args .w) (s .args .h) (s .args .r) (length (s .args .img .now)) (lent s) (fit t) (e .0) (e .1)
-    (e .2) (e .3) (r .compute-response .ensures)
+    when-done (image s) (s .args .size .w) (s .args .size .h) (s .args .size .r) (length (s .args .img .now)) (lent s) (fit t)
+    (e .0) (e .1) (e .2) (e .3) (r .compute-response .ensures)
 
 returns-3 : tie.Need-returns-3
 returns-3 c =
     let f = c .before in
     let s = begun f in
-    when-not (image s) (s .args .w) (s .args .h) (s .args .r) (length (s .args .img .now)) (lent s) (room f)
+    when-not (image s) (s .args .size .w) (s .args .size .h) (s .args .size .r) (length (s .args .img .now)) (lent s) (room f)
     (f .fits2 .ensures) (at-radius f .if1 .left) (c .if2 .left)
 
 pub ray-response-spec : {M : Type 1} → statement M

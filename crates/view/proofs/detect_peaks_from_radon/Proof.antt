@@ -20,7 +20,7 @@ use contract.Monad.{Fun}
 use contract.Running.{givenOf, tables}
 use types.Kit.{Given, Item, ‵, raw, _⊛_, ⋆, _$_, _∵_, !, qed, by, move, drop, use1, join, fsplit, fjoin, feqL, suffices, frame, done}
 use types.Part.{whole, sub, look-in, agg}
-use types.Run.{look, init, forget, stop, fld, hop, addr, from, load, of-opd, and-then, no-more, assigns, land, returns, enter}
+use types.Run.{look, init, forget, stop, fld, hop, addr, from, load, and-then, no-more, assigns, land, returns, enter}
 use types.Run.{alloc1, alloc0, params1, pass1, pass0, free1, free0}
 use sound.WpLaws.{FmC}
 use denote.Laws.{Is}
@@ -44,6 +44,7 @@ use Rattle.params.proofs.answers.Outcome as O
 use Rattle.params.proofs.answers.Outcome.Laws as O′
 use Rattle.params.specs.declared.answers.Outcome.{Outcome}
 use Rattle.view.specs.declared.RadonResponseView.{RadonResponseView}
+use Rattle.view.proofs.Copies.{copies, passes}
 use Rattle.view.proofs.Walk.{Called, Ensured, answers, met-with}
 use Rattle.view.proofs.Viewed.{ViewAt, Whole, mach, spelled, told, typed, handed, rejoined}
 use Rattle.view.proofs.RadonResponseView.Laws as T′
@@ -125,26 +126,15 @@ module _ {M : Type 1} (𝓤 : URA M) (H : Heap 𝓤) (A : Atoms 𝓤) (W : Given
         pass1 ! (init ! 16 refl wt) $
         pass1 ! (init ! 14 refl (LL.lawful Q.the-type Q′.the-laws 𝓤 H A W .typed s (set ∷ []) ps .0)) $
         pass1 ! (init ! 12 refl (mut-slice-lawful 𝓤 H A W (named 1) ν f32 .typed l (slice-vals l) pl .0)) $ pass0 ! $
-        assigns ! (of-opd ! (load ! (from ! (fld ! refl (stop !))) (look-in ! 16 (sub ! 0 refl (whole !))))) (from ! (stop !))
-        (init ! 10 refl (tt, wt .1 .0)) $
-        assigns ! (of-opd ! (load ! (from ! (fld ! refl (stop !))) (look-in ! 16 (sub ! 1 refl (whole !))))) (from ! (stop !))
-        (init ! 8 refl (tt, wt .1 .1 .0)) $
-        assigns ! (of-opd ! (load ! (from ! (fld ! refl (stop !))) (look-in ! 16 (sub ! 2 refl (whole !))))) (from ! (stop !))
-        (init ! 6 refl (tt, wt .1 .1 .1 .0)) $
-        assigns ! (of-opd ! (load ! (from ! (fld ! refl (stop !))) (look-in ! 16 (sub ! 3 refl (whole !))))) (from ! (stop !))
-        (init ! 4 refl (tt, wt .1 .1 .1 .1 .0)) $
+        copies ! 16 refl (sub ! 0 refl (whole !)) (init ! 10 refl (tt, wt .1 .0)) $
+        copies ! 16 refl (sub ! 1 refl (whole !)) (init ! 8 refl (tt, wt .1 .1 .0)) $
+        copies ! 16 refl (sub ! 2 refl (whole !)) (init ! 6 refl (tt, wt .1 .1 .1 .0)) $
+        copies ! 16 refl (sub ! 3 refl (whole !)) (init ! 4 refl (tt, wt .1 .1 .1 .1 .0)) $
         assigns ! (addr ! (from ! (fld ! refl (hop ! (look-in ! 12 (sub ! 0 refl (whole !))) (stop !))))) (from ! (stop !)) (init ! 2 refl (tt, tt)) $
-        assigns !
-        (agg !
-        (and-then ! (load ! (from ! (stop !)) (look ! 2 refl))
-        (and-then ! (load ! (from ! (fld ! refl (stop !))) (look-in ! 12 (sub ! 1 refl (whole !)))) (no-more !))))
-        (from ! (stop !))
-        (init ! 0 refl (tt, (tt, (record { fits = pl .0 .1 .0 }, tt)))) $
+        assigns ! (agg ! (passes ! 2 refl (and-then ! (load ! (from ! (fld ! refl (stop !))) (look-in ! 12 (sub ! 1 refl (whole !)))) (no-more !))))
+        (from ! (stop !)) (init ! 0 refl (tt, (tt, (record { fits = pl .0 .1 .0 }, tt)))) $
         move ! (20 ∷ []) $ use1 W (raw (Peaks 𝓤 H A mem run .pre to)) asked $ calls-at ! fm (Peaks 𝓤 H A mem run) known to
-        (and-then ! (load ! (from ! (stop !)) (look ! 11 refl))
-        (and-then ! (load ! (from ! (stop !)) (look ! 9 refl))
-        (and-then ! (load ! (from ! (stop !)) (look ! 7 refl)) (and-then ! (load ! (from ! (stop !)) (look ! 5 refl))
-        (and-then ! (load ! (from ! (stop !)) (look ! 15 refl)) (and-then ! (load ! (from ! (stop !)) (look ! 1 refl)) (no-more !))))))) (λ u.
+        (passes ! 11 refl (passes ! 9 refl (passes ! 7 refl (passes ! 5 refl (passes ! 15 refl (passes ! 1 refl (no-more !))))))) (λ u.
         answers ! tt callee.ended (callee.clauses 𝓤 H A mem run) to u (Whole κ q Other) (rejoined 𝓤 H A W κ d q Other) (λ r ws is.
         -- [the result; the tokens; the last list; what is ensured; _9; …; _0; …]
         land ! (from ! (stop !)) (init ! 22 refl (LL.lawful O.the-type O′.the-laws 𝓤 H A W .typed r _ is .0)) $ returns ! (look ! 22 refl) $

@@ -17,7 +17,7 @@ use ghost.Atoms.{Atoms}
 use contract.Monad.{Fun}
 use contract.Running.{givenOf, tables}
 use types.Kit.{Given, ‵, raw, _⊛_, ⋆, _$_, _∵_, !, qed, by, move, use1, use3, split, join, fjoin, frame, done}
-use types.Run.{look, init, forget, stop, from, load, and-then, no-more, land, returns, enter, alloc1, alloc0, params1, pass1, pass0, free1, free0}
+use types.Run.{look, init, forget, stop, from, no-more, land, returns, enter, alloc1, alloc0, params1, pass1, pass0, free1, free0}
 use sound.WpLaws.{FmC}
 use denote.RattleType.{owns}
 use denote.Laws.{Is}
@@ -33,12 +33,12 @@ use denote.Triple.Table.{cited}
 use denote.Triple.Walked.{walkOf}
 use Rattle.view.specs.View.{viewOf, Row}
 use Rattle.view.specs.declared.RadonResponseView.{RadonResponseView}
+use Rattle.view.proofs.Copies.{passes}
 use Rattle.view.proofs.Walk.{gone, ends, answered, met}
 use Rattle.view.proofs.Viewed.{ViewAt, Token}
-use Rattle.view.proofs.Lent.{lent, New, in-local, to-new, new-asks}
+use Rattle.view.proofs.Lent.{lent, New, in-local, to-new, new-asks, new-known}
 use Rattle.view.proofs.RadonResponseView.new as new
 use Rattle.view.proofs.RadonResponseView.new.Symbol as new-def
-use Rattle.view.proofs.RadonResponseView.new.Met as new-thm
 use Rattle.view.proofs.RadonResponseView.row as row
 use Rattle.view.proofs.RadonResponseView.row.Symbol as row-def
 use Rattle.view.proofs.RadonResponseView.row.Met as row-thm
@@ -106,9 +106,7 @@ module _ {M : Type 1} (𝓤 : URA M) (H : Heap 𝓤) (A : Atoms 𝓤) (W : Given
           (new-asks 𝓤 H A W mem run κ q s t w h Number) $
           split ! $
           calls-at ! fm (New 𝓤 H A mem run) known-new (to-new 𝓤 H A W mem run κ q s t w h)
-          (and-then ! (load ! (from ! (stop !)) (look ! 12 refl))
-          (and-then ! (load ! (from ! (stop !)) (look ! 10 refl))
-          (and-then ! (load ! (from ! (stop !)) (look ! 8 refl)) (and-then ! (load ! (from ! (stop !)) (look ! 6 refl)) (no-more !)))))
+          (passes ! 12 refl (passes ! 10 refl (passes ! 8 refl (passes ! 6 refl (no-more !)))))
           (λ u.
           answered ! tt new.ended (new.clauses 𝓤 H A mem run) (to-new 𝓤 H A W mem run κ q s t w h) u (Token κ q) (id⊢ 𝓤 _)
           (λ r. r ≡ viewOf s t w h) (λ r e. id⊢ 𝓤 _) (λ r made is.
@@ -116,7 +114,7 @@ module _ {M : Type 1} (𝓤 : URA M) (H : Heap 𝓤) (A : Atoms 𝓤) (W : Given
           land ! (from ! (stop !)) (init ! 3 refl (in-local 𝓤 H A W mem run κ r u is)) $
           use3 W (raw (RowOf 𝓤 H A mem run .pre (to-row r u))) (row-asks r u) $
           calls-at ! fm (RowOf 𝓤 H A mem run) known-row (to-row r u)
-          (and-then ! (load ! (from ! (stop !)) (look ! 1 refl)) (and-then ! (load ! (from ! (stop !)) (look ! 3 refl)) (no-more !)))
+          (passes ! 1 refl (passes ! 3 refl (no-more !)))
           (λ v.
           answered ! tt row.ended (row.clauses 𝓤 H A mem run) (to-row r u) v (Token κ q) (id⊢ 𝓤 _) (RowIn r) (λ p e. id⊢ 𝓤 _) (λ p found is′.
           -- [the row; the token; _6; …; _0; …]
@@ -131,9 +129,7 @@ module _ {M : Type 1} (𝓤 : URA M) (H : Heap 𝓤) (A : Atoms 𝓤) (W : Given
 pub read-row-spec : {M : Type 1} → stated.statement M
 unfolding code.routine
 read-row-spec 𝓤 H 𝓜 𝓖 𝓡 =
-    let known-new =
-    cited 𝓤 H (New 𝓤 H (𝓖 .A) (𝓜 .mem) (𝓡 .run)) 𝓜 𝓡 code.env new-def.name new-def.routine code.calls-view·RadonResponseView·new
-    (new-thm.met 𝓤 H 𝓜 𝓖 𝓡) in
+    let known-new = new-known 𝓤 H 𝓜 𝓖 𝓡 code.env code.calls-view·RadonResponseView·new in
     let known-row =
     cited 𝓤 H (RowOf 𝓤 H (𝓖 .A) (𝓜 .mem) (𝓡 .run)) 𝓜 𝓡 code.env row-def.name row-def.routine code.calls-view·RadonResponseView·row
     (row-thm.met 𝓤 H 𝓜 𝓖 𝓡) in

@@ -12,10 +12,10 @@ use Rattle.rays.proofs.rays.compute_response.Statement.{statement}
 use Rattle.rays.proofs.rays.compute_response.Tie as tie
 
 abbrev Inv-loop : tie.InvT-loop
-Inv-loop row col falling rising out₀ w h r y₀ out y = Rows w h (responseAt (shown row w) w h r) out₀ out y
+Inv-loop row col fall rise out₀ w h r y₀ out y = Rows w h (responseAt (shown row w) w h r) out₀ out y
 
 abbrev μ-loop : tie.MeasureT-loop
-μ-loop row col falling rising out₀ w h r y₀ out y = h - y
+μ-loop row col fall rise out₀ w h r y₀ out y = h - y
 
 abbrev start : tie.In-loop Inv-loop μ-loop → tie.Start Inv-loop μ-loop
 start t = t .before .before .before .before .before .before .before

@@ -34,8 +34,8 @@ same-length c = search needs
 returns : tie.Need-returns
 returns c = c .before .before .deep-row .ensures
 
-edge-part-requires : tie.Need-edge-part-requires
-edge-part-requires c κs =
+edges-requires : tie.Need-edges-requires
+edges-requires c κs =
     let s = start (c .before .before) in
     (omega arith, s .pre .1)
 
@@ -43,9 +43,9 @@ same-length-2 : tie.Need-same-length-2
 same-length-2 c = search needs
 
 returns-2 : tie.Need-returns-2
-returns-2 c = part-whole _ _ (start (edge c) .pre .0) (c .before .before .edge-part .ensures)
+returns-2 c = part-whole _ _ (start (edge c) .pre .0) (c .before .before .edges .ensures)
 
 pub compute-response-row-spec : {M : Type 1} → statement M
 compute-response-row-spec =
     tie.close
-    (tie.spec add-if2 mul-if3 add-if3 deep-row-requires same-length returns edge-part-requires same-length-2 returns-2)
+    (tie.spec add-if2 mul-if3 add-if3 deep-row-requires same-length returns edges-requires same-length-2 returns-2)

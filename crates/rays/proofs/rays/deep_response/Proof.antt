@@ -23,7 +23,7 @@ start4 c = start2 (c .before .before)
 -- the eight entries, and where their rows end
 rays : (s : tie.Start)
     → DeepRays (s .args .at .w) (s .args .at .r) (s .args .x) (s .args .at .y)
-    (s .args .row .now) (s .args .col .now) (s .args .falling .now) (s .args .rising .now)
+    (s .args .row .now) (s .args .col .now) (s .args .fall .now) (s .args .rise .now)
 rays s = deep-rays (s .pre .1 .tables) (s .pre .0)
 
 abbrev w : tie.Start → ℕ

@@ -44,39 +44,39 @@ f s = readAt (s .args .row .now) (s .args .at)
 abbrev row1 : tie.After-slice-known2 → List Float
 row1 c =
     let s = start1 c in
-    c .before .before .edge-part .last .1 .1 .1 .1 .1 .1 .0 ++ drop (a s - 0) (s .args .out .now)
+    c .before .before .edges .last .1 .1 .1 .1 .1 .1 .0 ++ drop (a s - 0) (s .args .out .now)
 
 done1 : (c : tie.After-slice-known2) → row1 c ≡ filled (a (start1 c)) (f (start1 c)) (start1 c .args .out .now)
 done1 c =
     let s = start1 c in
     part-more (f s) (s .args .out .now) 0 (a s) (filled-zero _ _) (omega arith) (omega arith)
-    (c .before .before .edge-part .ensures)
+    (c .before .before .edges .ensures)
 
 abbrev row2 : tie.After-slice-known3 → List Float
 row2 c =
     let s = start2 c in
     let old = row1 (second c) in
-    take (a s) old ++ (c .before .before .deep-part .last .1 .1 .1 .1 .1 .1 .0 ++ drop (e s - a s) (drop (a s) old))
+    take (a s) old ++ (c .before .before .inner .last .1 .1 .1 .1 .1 .1 .0 ++ drop (e s - a s) (drop (a s) old))
 
 done2 : (c : tie.After-slice-known3)
     → row2 c ≡ filled (e (start2 c)) (f (start2 c)) (start2 c .args .out .now)
 done2 c =
     let s = start2 c in
     part-more (f s) (s .args .out .now) (a s) (e s) (done1 (second c)) (omega arith) (omega arith)
-    (c .before .before .deep-part .ensures)
+    (c .before .before .inner .ensures)
 
 abbrev row3 : tie.After-slice-known4 → List Float
 row3 c =
     let s = start3 c in
     let old = row2 (third c) in
-    take (e s) old ++ (c .before .before .edge-part2 .last .1 .1 .1 .1 .1 .1 .0 ++ drop (s .args .at .w - e s) (drop (e s) old))
+    take (e s) old ++ (c .before .before .edges2 .last .1 .1 .1 .1 .1 .1 .0 ++ drop (s .args .at .w - e s) (drop (e s) old))
 
 done3 : (c : tie.After-slice-known4)
     → row3 c ≡ filled (start3 c .args .at .w) (f (start3 c)) (start3 c .args .out .now)
 done3 c =
     let s = start3 c in
     part-more (f s) (s .args .out .now) (e s) (s .args .at .w) (done2 (third c)) (omega arith) (omega arith)
-    (c .before .before .edge-part2 .ensures)
+    (c .before .before .edges2 .ensures)
 
 add-first : tie.Need-add-first
 add-first c = omega arith
@@ -87,53 +87,53 @@ sub-last c = omega arith
 sub-last-2 : tie.Need-sub-last-2
 sub-last-2 c = omega arith
 
-sub-edge-part : tie.Need-sub-edge-part
-sub-edge-part c = omega arith
+sub-edges : tie.Need-sub-edges
+sub-edges c = omega arith
 
-part-edge-part-start : tie.Need-part-edge-part-start
-part-edge-part-start c = omega arith
+part-edges-start : tie.Need-part-edges-start
+part-edges-start c = omega arith
 
-part-edge-part-end : tie.Need-part-edge-part-end
-part-edge-part-end c = omega arith
+part-edges-end : tie.Need-part-edges-end
+part-edges-end c = omega arith
 
-edge-part-requires : tie.Need-edge-part-requires
-edge-part-requires c κs =
+edges-requires : tie.Need-edges-requires
+edges-requires c κs =
     let s = start (c .before) in
     (omega (arith, part-long (f s) (s .args .out .now) 0 (a s) (filled-zero _ _) (omega arith) (omega arith)), s .pre .4)
 
-mul-deep-part : tie.Need-mul-deep-part
-mul-deep-part c = omega arith
+mul-inner : tie.Need-mul-inner
+mul-inner c = omega arith
 
-sub-deep-part : tie.Need-sub-deep-part
-sub-deep-part c = omega arith
+sub-inner : tie.Need-sub-inner
+sub-inner c = omega arith
 
-part-deep-part-start : tie.Need-part-deep-part-start
-part-deep-part-start c = omega arith
+part-inner-start : tie.Need-part-inner-start
+part-inner-start c = omega arith
 
-part-deep-part-end : tie.Need-part-deep-part-end
-part-deep-part-end c = omega (arith, length-fill _ _ _ (done1 c))
+part-inner-end : tie.Need-part-inner-end
+part-inner-end c = omega (arith, length-fill _ _ _ (done1 c))
 
-deep-part-requires : tie.Need-deep-part-requires
-deep-part-requires c κs =
+inner-requires : tie.Need-inner-requires
+inner-requires c κs =
     let b = c .before in
     let s = start1 b in
     let n = part-long (f s) (s .args .out .now) (a s) (e s) (done1 b) (omega arith) (omega arith) in
     (s .pre .0, s .pre .1, omega arith, omega (arith, n), s .pre .4)
 
-mul-edge-part : tie.Need-mul-edge-part
-mul-edge-part c = omega arith
+mul-edges : tie.Need-mul-edges
+mul-edges c = omega arith
 
-sub-edge-part-2 : tie.Need-sub-edge-part-2
-sub-edge-part-2 c = omega arith
+sub-edges-2 : tie.Need-sub-edges-2
+sub-edges-2 c = omega arith
 
-part-edge-part-start-2 : tie.Need-part-edge-part-start-2
-part-edge-part-start-2 c = omega arith
+part-edges-start-2 : tie.Need-part-edges-start-2
+part-edges-start-2 c = omega arith
 
-part-edge-part-end-2 : tie.Need-part-edge-part-end-2
-part-edge-part-end-2 c = omega (arith, length-fill _ _ _ (done2 c))
+part-edges-end-2 : tie.Need-part-edges-end-2
+part-edges-end-2 c = omega (arith, length-fill _ _ _ (done2 c))
 
-edge-part-requires-2 : tie.Need-edge-part-requires-2
-edge-part-requires-2 c κs =
+edges-requires-2 : tie.Need-edges-requires-2
+edges-requires-2 c κs =
     let b = c .before in
     let s = start2 b in
     (omega (arith, part-long (f s) (s .args .out .now) (e s) (s .args .at .w) (done2 b) (omega arith) (omega arith)), s .pre .4)
@@ -147,6 +147,6 @@ returns c = done3 c
 pub deep-row-spec : {M : Type 1} → statement M
 deep-row-spec =
     tie.close
-    (tie.spec add-first sub-last sub-last-2 sub-edge-part part-edge-part-start part-edge-part-end edge-part-requires
-    mul-deep-part sub-deep-part part-deep-part-start part-deep-part-end deep-part-requires
-    mul-edge-part sub-edge-part-2 part-edge-part-start-2 part-edge-part-end-2 edge-part-requires-2 same-length returns)
+    (tie.spec add-first sub-last sub-last-2 sub-edges part-edges-start part-edges-end edges-requires
+    mul-inner sub-inner part-inner-start part-inner-end inner-requires
+    mul-edges sub-edges-2 part-edges-start-2 part-edges-end-2 edges-requires-2 same-length returns)

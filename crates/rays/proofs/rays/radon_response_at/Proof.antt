@@ -38,10 +38,10 @@ on-row s = ray-of s along (s .pre .1 .tables .rows) (s .pre .1 .tables .row-long
 on-col : (s : tie.Start) → RayOf down (s .args .col .now) s
 on-col s = ray-of s down (s .pre .1 .tables .columns) (s .pre .1 .tables .col-long)
 
-on-falling : (s : tie.Start) → RayOf fall (s .args .falling .now) s
+on-falling : (s : tie.Start) → RayOf fall (s .args .fall .now) s
 on-falling s = ray-of s fall (s .pre .1 .tables .falls) (s .pre .1 .tables .falling-long)
 
-on-rising : (s : tie.Start) → RayOf rise (s .args .rising .now) s
+on-rising : (s : tie.Start) → RayOf rise (s .args .rise .now) s
 on-rising s = ray-of s rise (s .pre .1 .tables .rises) (s .pre .1 .tables .rising-long)
 
 sub-x0 : tie.Need-sub-x0

@@ -19,8 +19,8 @@ use ghost.Atoms.{Atoms}
 use contract.Monad.{Fun}
 use contract.Running.{givenOf, tables}
 use types.Kit.{Given, ‵, raw, _$_, _∵_, !, qed, by, move, use1}
-use types.Part.{whole, sub, look-in}
-use types.Run.{look, init, forget, stop, fld, from, load, of-opd, and-then, no-more, assigns, land, returns, enter, alloc1, alloc0}
+use types.Part.{whole, sub}
+use types.Run.{look, init, forget, stop, from, no-more, land, returns, enter, alloc1, alloc0}
 use types.Run.{params1, pass1, pass0, free1, free0}
 use sound.WpLaws.{FmC}
 use denote.RattleType.{owns}
@@ -36,6 +36,7 @@ use denote.Triple.Table.{cited}
 use denote.Triple.Walked.{walkOf}
 use Rattle.view.specs.View.{Row}
 use Rattle.view.specs.declared.RadonResponseView.{RadonResponseView}
+use Rattle.view.proofs.Copies.{copies, passes}
 use Rattle.view.proofs.Walk.{gone, ends, answered, met}
 use Rattle.view.proofs.Viewed.{Token, mach, spelled, told, typed, handed, rejoined}
 use Rattle.view.proofs.RadonResponseView.Laws as T′
@@ -89,19 +90,12 @@ module _ {M : Type 1} (𝓤 : URA M) (H : Heap 𝓤) (A : Atoms 𝓤) (W : Given
         alloc1 ! (λ l₀. alloc1 ! (λ l₁. alloc1 ! (λ l₂. alloc1 ! (λ l₃. alloc1 ! (λ l₄. alloc1 ! (λ l₅. alloc1 ! (λ l₆. alloc0 ! $ params1 ! $
         -- [_6; …; _5; …; _4; …; _3; …; _2; …; _1; …; _0; …; what was passed]
         pass1 ! (init ! 10 refl wt) $ pass1 ! (init ! 8 refl (tt, record { fits = fy })) $ pass0 ! $
-        assigns ! (of-opd ! (load ! (from ! (fld ! refl (stop !))) (look-in ! 10 (sub ! 0 refl (whole !))))) (from ! (stop !))
-        (init ! 6 refl (tt, wt .1 .0)) $
-        assigns ! (of-opd ! (load ! (from ! (fld ! refl (stop !))) (look-in ! 10 (sub ! 1 refl (whole !))))) (from ! (stop !))
-        (init ! 4 refl (tt, wt .1 .1 .0)) $
-        assigns ! (of-opd ! (load ! (from ! (fld ! refl (stop !))) (look-in ! 10 (sub ! 2 refl (whole !))))) (from ! (stop !))
-        (init ! 2 refl (tt, wt .1 .1 .1 .0)) $
-        assigns ! (of-opd ! (load ! (from ! (fld ! refl (stop !))) (look-in ! 10 (sub ! 3 refl (whole !))))) (from ! (stop !))
-        (init ! 0 refl (tt, wt .1 .1 .1 .1 .0)) $
+        copies ! 10 refl (sub ! 0 refl (whole !)) (init ! 6 refl (tt, wt .1 .0)) $
+        copies ! 10 refl (sub ! 1 refl (whole !)) (init ! 4 refl (tt, wt .1 .1 .0)) $
+        copies ! 10 refl (sub ! 2 refl (whole !)) (init ! 2 refl (tt, wt .1 .1 .1 .0)) $
+        copies ! 10 refl (sub ! 3 refl (whole !)) (init ! 0 refl (tt, wt .1 .1 .1 .1 .0)) $
         move ! (14 ∷ []) $ use1 W (raw (Called 𝓤 H A mem run .pre to)) asked $ calls-at ! fm (Called 𝓤 H A mem run) known to
-        (and-then ! (load ! (from ! (stop !)) (look ! 7 refl))
-        (and-then ! (load ! (from ! (stop !)) (look ! 5 refl))
-        (and-then ! (load ! (from ! (stop !)) (look ! 3 refl)) (and-then ! (load ! (from ! (stop !)) (look ! 1 refl))
-        (and-then ! (load ! (from ! (stop !)) (look ! 9 refl)) (no-more !)))))) (λ u.
+        (passes ! 7 refl (passes ! 5 refl (passes ! 3 refl (passes ! 1 refl (passes ! 9 refl (no-more !)))))) (λ u.
         answered ! tt callee.ended (callee.clauses 𝓤 H A mem run) to u (Token κ q) (rejoined 𝓤 H A W κ d q (‵ ftrue)) IsRow
         (λ r e. id⊢ 𝓤 _) (λ r e is.
         -- [the row; the token; _6; …; _0; …]

@@ -1,16 +1,16 @@
--- `deep_part`: a turn stores the response of a pixel whose eight entries are in the image. Assumes nothing.
+-- `inner`: a turn stores the response of a pixel whose eight entries are in the image. Assumes nothing.
 use Prim.Native.Nat.{_+_, _-_}
 use native.Mathlib.Omega.{arith}
 use Rattle.grid.proofs.Loops.{Line, line-none, line-more, line-all}
 use Rattle.rays.specs.Shown.{readAt}
-use Rattle.rays.proofs.rays.deep_part.Statement.{statement}
-use Rattle.rays.proofs.rays.deep_part.Tie as tie
+use Rattle.rays.proofs.rays.inner.Statement.{statement}
+use Rattle.rays.proofs.rays.inner.Tie as tie
 
 abbrev Inv-loop : tie.InvT-loop
-Inv-loop row col falling rising at a out₀ n i₀ out i = Line n (λ i. readAt row at (a + i)) out₀ out i
+Inv-loop row col fall rise at a out₀ n i₀ out i = Line n (λ i. readAt row at (a + i)) out₀ out i
 
 abbrev μ-loop : tie.MeasureT-loop
-μ-loop row col falling rising at a out₀ n i₀ out i = n - i
+μ-loop row col fall rise at a out₀ n i₀ out i = n - i
 
 abbrev start : tie.In-loop Inv-loop μ-loop → tie.Start Inv-loop μ-loop
 start t = t .before .before .before .before .before .before .before
@@ -46,8 +46,8 @@ same-length c = c .before .loop .inv .long
 returns : tie.Need-returns Inv-loop μ-loop
 returns c = line-all _ _ _ (c .before .loop .inv) (c .loop-test .left)
 
-pub deep-part-spec : {M : Type 1} → statement M
-deep-part-spec =
+pub inner-spec : {M : Type 1} → statement M
+inner-spec =
     tie.close
     (tie.spec Inv-loop μ-loop loop-holds add-deep-response deep-response-requires mul-out slice-write-out add-i loop-less
     loop-again same-length returns)
