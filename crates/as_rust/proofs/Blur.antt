@@ -108,7 +108,8 @@ module _ (m : Machine) (a n : ℕ) (ys : List Float) (room : a + n ≤ length ys
   phase : (g : ℕ → Float) (step : ℕ → Float → Float) (dst : List Float) → RowIs a n g ys dst
       → RowIs a n (λ i. step i (g i)) ys (for 0 n (λ x dst. put dst (a + x) (step x (float-at m dst (a + x)))) dst)
   phase g step dst r =
-      let t = for-keeps (λ x zs. Turn a n g (λ i. step i (g i)) ys zs x) 0 n (λ x dst. put dst (a + x) (step x (float-at m dst (a + x)))) dst (omega arith)
+      let t = for-keeps (λ x zs. Turn a n g (λ i. step i (g i)) ys zs x) 0 n
+      (λ x dst. put dst (a + x) (step x (float-at m dst (a + x)))) dst (omega arith)
       (record { long = r .long; is = λ i p q. absurd (omega arith); was = λ i p q. r .is i q; before = r .before; behind = r .behind })
       (λ x zs _ b t. turn-more t b (ap (step x) (inside zs (a + x) _ nan (omega (arith, t .long)) ∙ t .was x (omega arith) b))) in
       record { long = t .long; is = λ i b. t .is i b b; before = t .before; behind = t .behind }
@@ -126,7 +127,8 @@ module _ (m : Machine) (g : ℕ → ℕ → Float) (w h r : ℕ) (small : r ≤ 
   kernel-as-rust y b ys room =
       rw (usize-is m (y + r + 1) (omega arith), less-is m (min (y + r + 1) h) (y - r) (omega arith), whole-row)
       (let fit : y * w + w ≤ length ys = omega (arith, row-in w b) in
-      let start : RowIs (y * w) w (λ i. getD ys (y * w + i) nan) ys ys = record { long = refl; is = λ i p. refl; before = λ k p. refl; behind = λ k p. refl } in
+      let start : RowIs (y * w) w (λ i. getD ys (y * w + i) nan) ys ys =
+      record { long = refl; is = λ i p. refl; before = λ k p. refl; behind = λ k p. refl } in
       let zeros = row-ext m (y * w) w ys fit (λ i. lit-0) (sums (y - r)) _ (λ i p. fold-none (add binary32) lit-0 _ (y - r - (y - r)) (omega arith))
       (phase m (y * w) w ys fit _ (λ i v. lit-0) ys start) in
       let added = for-keeps (λ yy dst. RowIs (y * w) w (sums yy) ys dst) (y - r) (min (y + r + 1) h)
@@ -179,7 +181,8 @@ module _ (m : Machine) (g : ℕ → ℕ → Float) (w h r : ℕ) (small : r ≤ 
 
 -- ---- what the two buffers hold at the end
 
-module _ (m : Machine) (resp scratch : List Float) (w h : ℕ) (wide : w ≤ 8192) (high : h ≤ 8192) (long : length resp ≡ w * h) (room : length scratch ≡ w * h) where
+module _ (m : Machine) (resp scratch : List Float) (w h : ℕ) (wide : w ≤ 8192) (high : h ≤ 8192) (long : length resp ≡ w * h)
+    (room : length scratch ≡ w * h) where
   abbrev g : ℕ → ℕ → Float
   g = valueAt resp w
 

@@ -214,9 +214,15 @@ module _ (m : Machine) (img : List ℕ) (w h : ℕ) (p : RadonDetectorParams) (s
           (radon-response-u8 m img w h p rust) (found-by m p (radon-response-u8 m img w h p rust))
       unfolding outcomeOf
       finder-finds-the-rusts-corners =
-          let n = length-each 1 (λ q. numbers-by m p f q ∷ []) (λ q. refl) (found (pixel img w) w h p) ∙ one-mul (length (found (pixel img w) w h p)) in
+          let places = found (pixel img w) w h p in
+          let n = length-each 1 (λ q. numbers-by m p f q ∷ []) (λ q. refl) places ∙ one-mul (length places) in
           rw (eq-eqb (numberOf (answered img w h p b)) 0 z)
-          (record { count = sym (ap length corners-are ∙ n); width = sym (left .same .width); height = sym (left .same .height); corners = corners-are })
+          (record {
+            count = sym (ap length corners-are ∙ n);
+            width = sym (left .same .width);
+            height = sym (left .same .height);
+            corners = corners-are;
+          })
 
       -- and where it is asked and is ours, so is every number of the list
       pub finder-lists-the-rusts-corners : (p .«peak_fit» ≡ Gaussian → LogIsOurs m img w h p)
@@ -247,7 +253,8 @@ fit-same m n e a c b mode =
     let logs = is-gaussian mode && (lt lit-0 a && (lt lit-0 c && lt lit-0 b)) in
     λ i. peak-frac (cond logs (e a i) a) (cond logs (e c i) c) (cond logs (e b i) b)
 
-module _ (m n : Machine) (img : List ℕ) (w h : ℕ) (p : RadonDetectorParams) (small : Bytes img) (a c : RadonBuffers) (b : Buffers) (z : numberOf (answered img w h p b) ≡ 0) where
+module _ (m n : Machine) (img : List ℕ) (w h : ℕ) (p : RadonDetectorParams) (small : Bytes img) (a c : RadonBuffers) (b : Buffers)
+    (z : numberOf (answered img w h p b) ≡ 0) where
   pub rust-runs-alike : SameRun (p .«response_blur_radius») (radon-response-u8 m img w h p a) (radon-response-u8 n img w h p c)
   rust-runs-alike =
       let x = finder-leaves-the-rusts-map m img w h p small a b z in

@@ -32,7 +32,8 @@ use Rattle.saddle.specs.declared.Saddle.{Saddle}
 use Rattle.detect.specs.Maximum.{maximum}
 use Rattle.detect.specs.Corners.{borderOf, candidates, floorOf, firstFailing, bySaddle, isSaddle, isKept, verdict, corners, inputAt, numbers}
 use Rattle.peak_fit.proofs.AsRust.{rustClamp, rustPeak, fit-as-rust as clamped-fit}
-use Rattle.as_rust.specs.Machine.{Machine, Sound, _⊖_, _⊗_, _⊘_, lit-0, lit-1, lit-half, lit-minus-half, clamp, maxℤ, i32, usize, as-i32, as-usize, as-f32, float-at}
+use Rattle.as_rust.specs.Machine.{Machine, Sound, _⊖_, _⊗_, _⊘_, lit-0, lit-1, lit-half, lit-minus-half}
+use Rattle.as_rust.specs.Machine.{clamp, maxℤ, i32, usize, as-i32, as-usize, as-f32, float-at}
 use Rattle.as_rust.specs.Primitives.{peak-frac, fit-peak-frac}
 use Rattle.as_rust.specs.Response.{RadonResponseView}
 use Rattle.as_rust.specs.Detect.{relative-floor, new, border-of, process-pixel, detect-peaks-from-radon}
@@ -183,7 +184,8 @@ at-least n k = go (leb k n) refl
 abbrev decided : Bool → Bool → Bool → Bool → List (List Float) → List Float → List (List Float)
 decided a b c d sink n = cond a sink (cond b sink (cond c sink (cond d sink (sink ++ (n ∷ [])))))
 
-module _ (m : Machine) (sound : Sound m) (v : RadonResponseView) (p : RadonDetectorParams) (o : Viewed v) (ray : p .«ray_radius» ≤ 7) (l : ListPasses p) where
+module _ (m : Machine) (sound : Sound m) (v : RadonResponseView) (p : RadonDetectorParams) (o : Viewed v)
+    (ray : p .«ray_radius» ≤ 7) (l : ListPasses p) where
   abbrev w : ℕ
   w = v .w
 
@@ -345,6 +347,8 @@ module _ (m : Machine) (sound : Sound m) (v : RadonResponseView) (p : RadonDetec
             less-is m w B (omega arith),
           )
           (rect-loop (λ ps sink. sink ≡ each (λ q. numbers-by m p f q ∷ []) (keep test ps)) B (w - B) B (h - B)
-          (λ y x sink. process-pixel m v p (new m (rayOf (p .«ray_radius»))) (relative-floor m t (maximum w h f)) (pos nms) (lit-1 ⊘ as-f32 up) y x sink)
+          (λ y x sink.
+          process-pixel m v p (new m (rayOf (p .«ray_radius»))) (relative-floor m t (maximum w h f)) (pos nms)
+          (lit-1 ⊘ as-f32 up) y x sink)
           [] (omega arith) (omega arith) (rw (keep-none, each-none))
           (λ x y sink a b c d s. pixel-as-rust best (before B (w - B) B x y) x y sink a (omega arith) c (omega arith) s))

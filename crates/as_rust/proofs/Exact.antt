@@ -3,7 +3,8 @@
 use mathlib.Core.Path.{_≡_, refl, sym, ap, _∙_}
 use mathlib.Core.Bool.{Bool, true, false, cond}
 use Prim.Native.Nat.{ℕ, _+_, _-_, _*_, _/_, _^_, _≤_, _<_, min}
-use native.Mathlib.Nat.{add-mul, sub-add-cancel, mul-assoc, mul-comm, mul-right-comm, zero-mul, mul-pos, mul-le-mul-right, le-of-mul-le-mul-right, eq-of-mul-eq-mul-right, lt-of-lt-of-le, div-eq-of-lt}
+use native.Mathlib.Nat.{add-mul, sub-add-cancel, mul-assoc, mul-comm, mul-right-comm, zero-mul, mul-pos}
+use native.Mathlib.Nat.{mul-le-mul-right, le-of-mul-le-mul-right, eq-of-mul-eq-mul-right, lt-of-lt-of-le, div-eq-of-lt}
 use native.Mathlib.Omega.{arith}
 use borrow.Author.Tests.{ltb-true, ltb-false, le-ltb}
 use lib.Dec.{ltb, lit<, lit≤}
@@ -235,7 +236,8 @@ floor-val {k} q (val {s = true} {m = m} {e = e} {a = a} h) b i =
 pub rounded-val : {x : Float} {a : ℕ} → Val 2 x a 0 → a < 2 ^ 20 → Val 0 (rounded x) ((a + 2) / 4) 0
 unfolding rounded
 rounded-val (val {s = false} {m = m} {e = e} {a = a} h) b =
-    let q : (2 * (m * up e) + down e) / (2 * down e) ≡ (a + 2) / 4 = div-same _ (2 * down e) (a + 2) 4 (omega (arith, down-pos e)) (lit< tt) (omega (arith, zero-mul (down e))) in
+    let q : (2 * (m * up e) + down e) / (2 * down e) ≡ (a + 2) / 4 =
+    div-same _ (2 * down e) (a + 2) 4 (omega (arith, down-pos e)) (lit< tt) (omega (arith, zero-mul (down e))) in
     rw q (whole-val ((a + 2) / 4) (omega arith))
 rounded-val (val {s = true} {m = m} {e = e} {a = a} h) b =
     let z = nothing 4 (m * up e) (down e) a (lit< tt) (down-pos e) h in

@@ -3,7 +3,8 @@ use mathlib.Core.Path.{_≡_, refl}
 use mathlib.Core.Bool.{true, false}
 use Prim.Native.Nat.{_^_}
 use lib.Ieee.{binary32, round, ofBits}
-use Rattle.as_rust.specs.Machine.{lit-0, lit-minus-0, lit-1, lit-2, lit-4, lit-16, lit-255, lit-half, lit-minus-half, lit-0·2, lit-0·28, lit-minus-1e-12}
+use Rattle.as_rust.specs.Machine.{lit-0, lit-minus-0, lit-1, lit-2, lit-4, lit-16, lit-255, lit-half}
+use Rattle.as_rust.specs.Machine.{lit-minus-half, lit-0·2, lit-0·28, lit-minus-1e-12}
 
 pub record Literals : Type 0 where
   pub zero : lit-0 ≡ round binary32 false 0 1

@@ -31,7 +31,8 @@ use Rattle.response.proofs.Runs.{Runs, side-most}
 use Rattle.response.specs.Map.{Buffers, rawAt, mapAt, mappedBy, mapped, sideOf}
 use Rattle.radon.specs.Finder.{Bytes}
 use Rattle.as_rust.specs.Machine.{Machine, usize, copy-from-slice, resize}
-use Rattle.as_rust.specs.Response.{RadonBuffers, Cumsums, image-upsample-clamped, ensure-capacity, upsample-bilinear-2x, sat-row, sat-col, sat-diag-pos, sat-diag-neg, compute-response, radon-response-u8}
+use Rattle.as_rust.specs.Response.{RadonBuffers, Cumsums, image-upsample-clamped, ensure-capacity, upsample-bilinear-2x}
+use Rattle.as_rust.specs.Response.{sat-row, sat-col, sat-diag-pos, sat-diag-neg, compute-response, radon-response-u8}
 use Rattle.as_rust.specs.Primitives.{box-blur-inplace}
 use Rattle.as_rust.specs.Runs.{SameMap}
 use Rattle.as_rust.proofs.Machine.{usize-is, copy-is, resize-long}
@@ -135,7 +136,11 @@ module _ (m : Machine) (img : List ℕ) (w h : ℕ) (small : Bytes img) (whole :
       same : img ≡ filled (1 * w * (1 * h)) (plane (1 * w) (workAt 1 (pixel img w) w h)) img
       same = unfold plane workAt in rw (one-mul w, one-mul h)
           (filled-intro 0 (w * h) _ img img refl (λ k b c. sym (ap (λ (j : ℕ). getD img j 0) (div-add-mod' k w))) (λ k b. refl))
-  working-is (suc (suc zero)) buffer l u e = record { old = resize buffer n 0; long = long; is = upsample-as-rust m img w h small whole wide high (resize buffer n 0) long ∙ same }
+  working-is (suc (suc zero)) buffer l u e = record {
+    old = resize buffer n 0;
+    long = long;
+    is = upsample-as-rust m img w h small whole wide high (resize buffer n 0) long ∙ same;
+  }
     where
       n : ℕ
       n = usize m (4 * w * h)
@@ -187,7 +192,8 @@ module _ (m : Machine) (img : List ℕ) (w h : ℕ) (small : Bytes img) (whole :
 
 -- ---- 552-582: from a working image on
 
-module _ (m : Machine) (img : List ℕ) (W H r blur : ℕ) (work : ℕ → ℕ → ℕ) (is : (x y : ℕ) → x < W → y < H → pixel img W x y ≡ work x y) (i : Image img W H)
+module _ (m : Machine) (img : List ℕ) (W H r blur : ℕ) (work : ℕ → ℕ → ℕ)
+    (is : (x y : ℕ) → x < W → y < H → pixel img W x y ≡ work x y) (i : Image img W H)
     (b : RadonBuffers) (s : Sized W H b) (small : r ≤ 7) (narrow : blur ≤ 3) where
   abbrev pub cs : Cumsums
   cs = record {
@@ -292,7 +298,8 @@ module _ (m : Machine) (img : List ℕ) (w h : ℕ) (p : RadonDetectorParams) (b
       let t = built m work W H r blur f is i sized sized-is (runs .ray-most) (runs .blur-most) in
       let table = table-same m work W H r blur f is i sized sized-is (runs .ray-most) (runs .blur-most) in
       -- the document's recurrence, as the sums that the laws use
-      let shown : (d : Way) (old : List ℕ) → map pos (take (W * H) (tableOf d f W H old)) ≡ map pos (take (W * H) (filled (W * H) (plane W (runSum d f W)) old)) =
+      let shown : (d : Way) (old : List ℕ) → map pos (take (W * H) (tableOf d f W H old))
+      ≡ map pos (take (W * H) (filled (W * H) (plane W (runSum d f W)) old)) =
       λ d old. ap (λ (l : List ℕ). map pos (take (W * H) l)) (table-filled f W d H old) in
       rw (usize-is m (w * h) (omega arith), eq-eqb (length img) (w * h) (runs .whole), up, ray, sized-is .width, sized-is .height, narrow (m .narrow))
       (record {
@@ -319,7 +326,9 @@ module _ (m : Machine) (img : List ℕ) (w h : ℕ) (p : RadonDetectorParams) (b
 
       scratch-taken : (blur : ℕ) → 0 < blur
           → take (F * w * (F * h)) (scratched (rawAt F (rayOf (p .«ray_radius»)) (pixel img w) w h) (F * w) (F * h) blur (b .scratch))
-          ≡ filled (F * w * (F * h)) (plane (F * w) (rowMean (responseAt (workAt F (pixel img w) w h) (F * w) (F * h) (rayOf (p .«ray_radius»))) (F * w) blur)) (sized .blur-scratch)
+          ≡ filled (F * w * (F * h))
+          (plane (F * w) (rowMean (responseAt (workAt F (pixel img w) w h) (F * w) (F * h) (rayOf (p .«ray_radius»))) (F * w) blur))
+          (sized .blur-scratch)
       scratch-taken zero l = absurd (omega arith)
       scratch-taken (suc k) l =
           unfold scratched rawAt in taken-same (F * w * (F * h)) _ (b .scratch) (sized .blur-scratch) (runs .scratch-room) (sized-is .scratch-long)

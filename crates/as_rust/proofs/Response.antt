@@ -1,4 +1,5 @@
--- The Rust's response from differences of prefix sums is (largest - smallest)² of the four direct ray sums, as the f32 of document 01. Assumes nothing.
+-- The Rust's response from differences of prefix sums is (largest - smallest)² of the four direct ray sums, as the f32
+-- of document 01. Assumes nothing.
 use mathlib.Core.Path.{_≡_, refl, sym, ap, _∙_}
 use mathlib.Core.Logic.{inl, inr}
 use mathlib.Core.Bool.{Bool, true, false, cond, _&&_, _||_}

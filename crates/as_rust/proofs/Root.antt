@@ -112,7 +112,13 @@ plus-of (fin true k e) v h = absurd (true≢false (h .0))
 plus-of (fin false k e) v h = refl
 
 abbrev pattern-at : (c : ℕ) → c < infinite → Pattern (ofBits binary32 c)
-pattern-at c b = record { bits = c; below = b; is = refl; worth-is = worth-of (ofBits binary32 c) (val c) (val-is c b); under = bottom-pos (ofBits binary32 c) }
+pattern-at c b = record {
+  bits = c;
+  below = b;
+  is = refl;
+  worth-is = worth-of (ofBits binary32 c) (val c) (val-is c b);
+  under = bottom-pos (ofBits binary32 c);
+}
 
 unit-pos : 0 < 2 ^ 149
 unit-pos = pow-pos 149

@@ -19,11 +19,13 @@ use Rattle.grid.proofs.Each.{length-each}
 use Rattle.grid.specs.Rect.{Place, rect, range, from, line}
 use Rattle.grid.proofs.All.{all, all-map, all-keep, all-rect, InRect, foldl-same}
 use Rattle.grid.specs.Ways.{pixel}
-use Rattle.saddle.specs.Saddle.{noSums, noMoments, side, disk, inDisk, offset, around, overDisk, momentAdded, momentsOf, meanOf, normAdded, normsOf, saddleOf, added, sumsOf, magnitude, squares, saddleAt, byCurvatures}
+use Rattle.saddle.specs.Saddle.{noSums, noMoments, side, disk, inDisk, offset, around, overDisk, momentAdded, momentsOf, meanOf}
+use Rattle.saddle.specs.Saddle.{normAdded, normsOf, saddleOf, added, sumsOf, magnitude, squares, saddleAt, byCurvatures}
 use Rattle.saddle.specs.declared.Saddle.the-variants.{Yes, Flat, Curved}
 use Rattle.detect.specs.Corners.{isKept, bySaddle}
 use Rattle.saddle.proofs.Rooted.{nearestRoot, spreadSquared, trace, never-outside, by-root}
-use Rattle.as_rust.specs.Machine.{Machine, Sound, _⊕_, _⊖_, _⊗_, _⊘_, lit-0, lit-minus-0, lit-1, lit-0·2, abs, i64, as-usize, as-f32, as-f32-signed, wrapping-add-signed, byte-at}
+use Rattle.as_rust.specs.Machine.{Machine, Sound, _⊕_, _⊖_, _⊗_, _⊘_, lit-0, lit-minus-0, lit-1, lit-0·2, abs}
+use Rattle.as_rust.specs.Machine.{i64, as-usize, as-f32, as-f32-signed, wrapping-add-signed, byte-at}
 use Rattle.as_rust.specs.Detect.{offsets, disk as disk-of, new, accepts}
 use Rattle.as_rust.proofs.Machine.{usize-is, inside}
 use Rattle.as_rust.proofs.Root.{root-is}

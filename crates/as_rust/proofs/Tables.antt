@@ -18,7 +18,7 @@ use Rattle.grid.proofs.Plane.{getD-plane, pixel-in, row-above, row-of, column-o
 use Rattle.grid.proofs.Loops.{Row, row-read}
 use Rattle.grid.specs.Ways.{Way, along, down, fall, rise, pixel, upTo, runSum, Reach}
 use Rattle.grid.proofs.Ways.{prevx, prevy, none-past, run-on, run-at, run-most}
-use Rattle.as_rust.specs.Machine.{Machine, sat, usize, less, byte-at, entry-at, put}
+use Rattle.as_rust.specs.Machine.{Machine, sat, usize, less, byte-at, entry-at, put, for}
 use Rattle.as_rust.specs.Response.{sat-row, sat-col, sat-diag-pos, sat-diag-neg}
 use Rattle.as_rust.proofs.Machine.{usize-is, less-is, sat-is, inside, put-is}
 use Rattle.as_rust.proofs.Tests.{and-true, and-false}
@@ -84,7 +84,8 @@ module _ (m : Machine) (img : List ℕ) (w h : ℕ) (i : Image img w h) (old : L
 
   -- what stands before x and y on a line that comes from the row above
   before : (d : Way) (t : Bool) (x y k : ℕ) {ys zs : List ℤ} → Row w h (run d img w) ys zs y x → w * h ≤ length ys
-      → (t ≡ true → (0 < y) × (prevy d y ≡ y) × (0 < prevx d x) × (prevx d x ≤ w) × (k ≡ (y - 1) * w + (prevx d x - 1)) × ((y - 1) * w + (prevx d x - 1) < y * w + x))
+      → (t ≡ true → (0 < y) × (prevy d y ≡ y) × (0 < prevx d x) × (prevx d x ≤ w)
+      × (k ≡ (y - 1) * w + (prevx d x - 1)) × ((y - 1) * w + (prevx d x - 1) < y * w + x))
       → (t ≡ false → Reach d w (prevx d x) (prevy d y) × (min (min (prevx d x) (prevy d y)) (w + 1 - prevx d x) ≡ 0))
       → cond t (entry-at m zs k) (pos 0) ≡ pos (upTo d (pixel img w) w (prevx d x) (prevy d y))
   before d true x y k {ys} r l u v =
@@ -93,17 +94,25 @@ module _ (m : Machine) (img : List ℕ) (w h : ℕ) (i : Image img w h) (old : L
       ∙ ap pos (run-at d (pixel img w) w (prevx d x - 1) (y - 1) (prevx d x) (prevy d y) refl (omega arith) (omega arith))
   before d false x y k r l u v = ap pos (none-past d (pixel img w) w _ _ (v refl .0) (v refl .1))
 
+  -- a table written a row at a time, where what stands before a pixel is read from the table itself
+  read-sums : (d : Way) (prev : ℕ → ℕ → List ℤ → ℤ)
+      → ((x y : ℕ) (ys zs : List ℤ) → x < w → Row w h (run d img w) ys zs y x → w * h ≤ length ys
+      → prev x y zs ≡ pos (upTo d (pixel img w) w (prevx d x) (prevy d y)))
+      → Sums d img w h
+      (for 0 h (λ y t. for 0 w (λ x t. put t (y * w + x) (sat m (prev x y t +ℤ pos (byte-at m img (y * w + x))))) t) old)
+  read-sums d prev is =
+      filled-sums d
+      (rows-loop w h (run d img w) old (omega arith) _ (λ y ys b l q.
+      for-keeps (λ x zs. Row w h (run d img w) ys zs y x) 0 w _ ys (omega arith) q
+      (λ x zs _ c t. row-put w h (run d img w) ys l t c (more d x y c b (is x y ys zs c t l)))))
+
   pub falling-sums : Sums fall img w h (sat-diag-pos m img w h old)
   unfolding sat-diag-pos
-  falling-sums =
-      filled-sums fall
-      (rows-loop w h (run fall img w) old (omega arith) _ (λ y ys b l q.
-      for-keeps (λ x zs. Row w h (run fall img w) ys zs y x) 0 w _ ys (omega arith) q
-      (λ x zs _ c t. row-put w h (run fall img w) ys l t c (more fall x y c b (prev x y c t l)))))
+  falling-sums = read-sums fall _ prev
     where
-      prev : (x y : ℕ) {ys zs : List ℤ} → x < w → Row w h (run fall img w) ys zs y x → w * h ≤ length ys
+      prev : (x y : ℕ) (ys zs : List ℤ) → x < w → Row w h (run fall img w) ys zs y x → w * h ≤ length ys
           → cond (ltb 0 y && ltb 0 x) (entry-at m zs (less m y 1 * w + less m x 1)) (pos 0) ≡ pos (upTo fall (pixel img w) w x y)
-      prev x y c t l =
+      prev x y ys zs c t l =
           before fall (ltb 0 y && ltb 0 x) x y (less m y 1 * w + less m x 1) t l
           (λ e.
           let o : 0 < y = ltb-true 0 y (and-true (ltb 0 y) (ltb 0 x) e .0) in
@@ -116,16 +125,12 @@ module _ (m : Machine) (img : List ℕ) (w h : ℕ) (i : Image img w h) (old : L
 
   pub rising-sums : Sums rise img w h (sat-diag-neg m img w h old)
   unfolding sat-diag-neg
-  rising-sums =
-      filled-sums rise
-      (rows-loop w h (run rise img w) old (omega arith) _ (λ y ys b l q.
-      for-keeps (λ x zs. Row w h (run rise img w) ys zs y x) 0 w _ ys (omega arith) q
-      (λ x zs _ c t. row-put w h (run rise img w) ys l t c (more rise x y c b (prev x y c t l)))))
+  rising-sums = read-sums rise _ prev
     where
-      prev : (x y : ℕ) {ys zs : List ℤ} → x < w → Row w h (run rise img w) ys zs y x → w * h ≤ length ys
+      prev : (x y : ℕ) (ys zs : List ℤ) → x < w → Row w h (run rise img w) ys zs y x → w * h ≤ length ys
           → cond (ltb 0 y && ltb (usize m (x + 1)) w) (entry-at m zs (less m y 1 * w + (x + 1))) (pos 0)
           ≡ pos (upTo rise (pixel img w) w (x + 1 + 1) y)
-      prev x y c t l =
+      prev x y ys zs c t l =
           rw (usize-is m (x + 1) (omega (arith, i .wide)))
           (before rise (ltb 0 y && ltb (x + 1) w) x y (less m y 1 * w + (x + 1)) t l
           (λ e.
@@ -197,6 +202,10 @@ module _ (m : Machine) (img : List ℕ) (w h : ℕ) (i : Image img w h) (old : L
       (λ x t _ b r.
       columns-more x
       (for-keeps {S = ℤ × List ℤ} (λ y s. Column x y (s .0) (s .1)) 0 h _ (pos 0, t) (omega arith)
-      (record { is = ap pos (none-past down (pixel img w) w (x + 1) 0 (omega arith) (omega arith)); left = r; above = λ j out p q. absurd (omega arith) })
+      (record {
+        is = ap pos (none-past down (pixel img w) w (x + 1) 0 (omega arith) (omega arith));
+        left = r;
+        above = λ j out p q. absurd (omega arith);
+      })
       (λ y s _ c q. column-more x y b c q))) in
       record { long = all .long; at = λ x y out a b. all .done x y out a a b }

@@ -17,13 +17,15 @@ use Rattle.grid.specs.Plane.{plane}
 use Rattle.grid.proofs.Plane.{pixel-in}
 use Rattle.grid.specs.Ways.{pixel}
 use Rattle.upsample.specs.Upsample.{weighted, after, upAt}
-use Rattle.as_rust.specs.Machine.{Machine, _⊕_, _⊖_, _⊗_, lit-0, lit-1, lit-half, lit-255, floor, rounded, clamp, maxℤ, usize, less, as-usize, as-f32, to-isize, to-u8, byte-at}
+use Rattle.as_rust.specs.Machine.{Machine, _⊕_, _⊖_, _⊗_, lit-0, lit-1, lit-half, lit-255, floor, rounded, clamp}
+use Rattle.as_rust.specs.Machine.{maxℤ, usize, less, as-usize, as-f32, to-isize, to-u8, byte-at}
 use Rattle.as_rust.specs.Response.{out-px, row-kernel, upsample-bilinear-2x}
 use Rattle.radon.specs.Finder.{Bytes}
 use Rattle.as_rust.proofs.Machine.{usize-is, less-is, inside}
 use Rattle.as_rust.proofs.Tests.{or-true, or-false, above-0}
 use Rattle.as_rust.proofs.Loops.{pixels-loop, chunks-are-rows}
-use Rattle.as_rust.proofs.Exact.{Val, val, add-val, sub-val, mul-val, finer, net, clamp-val, cast-val, floor-val, rounded-val, usize-val, u8-val}
+use Rattle.as_rust.proofs.Exact.{Val, val, add-val, sub-val, mul-val, finer, net, clamp-val}
+use Rattle.as_rust.proofs.Exact.{cast-val, floor-val, rounded-val, usize-val, u8-val}
 
 -- ---- the literals
 

@@ -9,7 +9,9 @@ use lib.Ieee.{Float, lt, le}
 use Rattle.grid.specs.Each.{each, keep}
 use Rattle.grid.specs.Rect.{range}
 use Rattle.params.specs.declared.settings.RadonDetectorParams.{RadonDetectorParams}
-use Rattle.as_rust.specs.Machine.{Machine, _⊕_, _⊖_, _⊗_, _⊘_, lit-0, lit-1, lit-4, lit-16, lit-0·2, neg-infinity, max-f32, abs, is-finite, ltℤ, maxℤ, i32, i64, usize, less, as-i32, as-isize, as-usize, as-f32, as-f32-signed, wrapping-add-signed, byte-at, float-at, for, how-many}
+use Rattle.as_rust.specs.Machine.{Machine, _⊕_, _⊖_, _⊗_, _⊘_, lit-0, lit-1, lit-4, lit-16, lit-0·2, neg-infinity, max-f32}
+use Rattle.as_rust.specs.Machine.{abs, is-finite, ltℤ, maxℤ, i32, i64, usize, less, as-i32, as-isize, as-usize, as-f32}
+use Rattle.as_rust.specs.Machine.{as-f32-signed, wrapping-add-signed, byte-at, float-at, for, how-many}
 use Rattle.as_rust.specs.Primitives.{fit-peak-frac}
 use Rattle.as_rust.specs.Response.{RadonResponseView, image-upsample-clamped, ray-radius-clamped}
 use Rattle.as_rust.specs.Neighbors.{is-local-max, count-positive-neighbors}

@@ -7,7 +7,8 @@ use lib.Dec.{eqb}
 use lib.Ieee.{Float, lt}
 use Rattle.params.specs.declared.settings.PeakFitMode.{PeakFitMode}
 use Rattle.params.specs.declared.settings.PeakFitMode.the-variants.{Parabolic, Gaussian}
-use Rattle.as_rust.specs.Machine.{Machine, _⊕_, _⊖_, _⊗_, _⊘_, lit-0, lit-1, lit-2, lit-half, lit-minus-half, lit-minus-1e-12, clamp, usize, less, as-f32, float-at, put, for, chunks}
+use Rattle.as_rust.specs.Machine.{Machine, _⊕_, _⊖_, _⊗_, _⊘_, lit-0, lit-1, lit-2, lit-half, lit-minus-half}
+use Rattle.as_rust.specs.Machine.{lit-minus-1e-12, clamp, usize, less, as-f32, float-at, put, for, chunks}
 
 -- 18-26: `PeakFitMode` is the settings' own type, by the same two names
 abbrev pub is-gaussian : PeakFitMode → Bool

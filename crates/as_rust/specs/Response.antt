@@ -9,7 +9,9 @@ use lib.IntN.{ℤ, pos, _+ℤ_, _-ℤ_}
 use lib.Ieee.{Float}
 use Rattle.params.specs.declared.settings.RadonDetectorParams.{RadonDetectorParams}
 use Rattle.params.specs.declared.settings.PeakFitMode.the-variants.{Gaussian}
-use Rattle.as_rust.specs.Machine.{Machine, _⊕_, _⊖_, _⊗_, lit-0, lit-1, lit-half, lit-255, lit-0·28, floor, rounded, clamp, ltℤ, maxℤ, sat, usize, less, as-usize, as-f32, as-f32-signed, to-isize, to-u8, byte-at, entry-at, put, copy-from-slice, resize, for, chunks}
+use Rattle.as_rust.specs.Machine.{Machine, _⊕_, _⊖_, _⊗_, lit-0, lit-1, lit-half, lit-255, lit-0·28, floor, rounded}
+use Rattle.as_rust.specs.Machine.{clamp, ltℤ, maxℤ, sat, usize, less, as-usize, as-f32, as-f32-signed, to-isize}
+use Rattle.as_rust.specs.Machine.{to-u8, byte-at, entry-at, put, copy-from-slice, resize, for, chunks}
 use Rattle.as_rust.specs.Primitives.{box-blur-inplace}
 
 -- 38-41: `SatElem` is sat, `SatElem::default()` is 0 and `SatElem::from(b)` the byte b
@@ -212,7 +214,8 @@ radon-response-at m cs r x y =
     d ⊗ d
 
 -- 372-400: the row is the part of out from `at` on, n floats. The early return is a branch. 382: `row[..r]`; 392: `take(w - r)` ends with the row;
--- 397: `row[(w - r)..]`. (The two parts panic where they do not lie in the row. They do: n is w, `chunks-are-rows` of proofs/Loops, and w is over 2 r.)
+-- 397: `row[(w - r)..]`. (The two parts panic where they do not lie in the row. They do: n is w, `chunks-are-rows` of
+-- proofs/Loops, and w is over 2 r.)
 unfoldable pub compute-response-row : Machine → Cumsums → ℕ → ℕ → ℕ → ℕ → List Float → List Float
 compute-response-row m cs ray-radius y at n row =
     let w = cs .w in

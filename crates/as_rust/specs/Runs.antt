@@ -47,7 +47,8 @@ numbers-by m p f q =
 
 -- Whatever the machine's logarithm: our count, W and H are the Rust's, and its corners stand at our places with our strengths, in our order.
 -- Only the two coordinates, and in Gaussian mode alone, turn on the logarithm.
-pub record SameFound (o : Outcome) (places : List Place) (numbers : Place → List Float) (rust : RadonBuffers) (found : List (List Float)) : Type 0 where
+pub record SameFound (o : Outcome) (places : List Place) (numbers : Place → List Float) (rust : RadonBuffers)
+    (found : List (List Float)) : Type 0 where
   pub count : o .count ≡ length found
   pub width : o .w ≡ rust .working-w
   pub height : o .h ≡ rust .working-h

@@ -4,7 +4,9 @@ use mathlib.Core.Logic.{_⊎_, inl, inr}
 use mathlib.Core.Bool.{_||_, Bool, true, false, _&&_, or-true, true≢false}
 use borrow.Author.Tests.{ltb-false, lt-ltb, le-ltb, eq-eqb}
 use Prim.Native.Nat.{ℕ, _+_, _*_, _≤_, _<_}
-use native.Mathlib.Nat.{le-of-lt, le-of-eq, mul-right-comm, eq-zero-or-pos, eq-or-lt-of-le, mul-le-mul-right, mul-lt-mul-of-pos-right, lt-of-mul-lt-mul-right, mul-pos, zero-mul}
+use native.Mathlib.Nat.{le-of-lt, le-of-eq, mul-right-comm, eq-zero-or-pos, eq-or-lt-of-le}
+use native.Mathlib.Nat.{mul-le-mul-right, mul-lt-mul-of-pos-right, lt-of-mul-lt-mul-right, mul-pos}
+use native.Mathlib.Nat.{zero-mul}
 use native.Mathlib.Omega.{arith}
 use lib.Dec.{T, ltb, eqb, eqb→eq, ltb→lt, lt→ltb}
 use lib.Ieee.{Float, nan, inf, fin, up, down, lt, le, eq, isNan}
@@ -19,7 +21,10 @@ pub or-le : (a b : ℕ) (c : Bool) → T (ltb a b || (eqb a b && c)) → a ≤ b
 or-le a b c t = elim (or-split (ltb a b) (eqb a b && c) t) [ inl u ↦ le-of-lt (ltb→lt a b u) | inr u ↦ le-of-eq (eqb→eq a b (and-l (eqb a b) c u)) ]
 
 pub or-ge : (a b : ℕ) (c : Bool) → T (ltb b a || (eqb a b && c)) → b ≤ a
-or-ge a b c t = elim (or-split (ltb b a) (eqb a b && c) t) [ inl u ↦ le-of-lt (ltb→lt b a u) | inr u ↦ le-of-eq (sym (eqb→eq a b (and-l (eqb a b) c u))) ]
+or-ge a b c t = elim (or-split (ltb b a) (eqb a b && c) t) [
+  | inl u ↦ le-of-lt (ltb→lt b a u)
+  | inr u ↦ le-of-eq (sym (eqb→eq a b (and-l (eqb a b) c u)))
+]
 
 pub both-eq : (a b : ℕ) → T (eqb a b && eqb a 0) → (a ≡ b) × (a ≡ 0)
 both-eq a b t = (eqb→eq a b (and-l (eqb a b) (eqb a 0) t), eqb→eq a 0 (and-r (eqb a b) (eqb a 0) t))
@@ -98,19 +103,24 @@ le-lt-trans (fin s m e) (inf false) (fin u l g) h k = absurd k
 le-lt-trans (fin s m e) (fin t n d) nan h k = absurd k
 le-lt-trans (fin s m e) (fin t n d) (inf u) h k = k
 le-lt-trans (fin false m e) (fin false n d) (fin false l g) h k =
-    lt→ltb _ _ (up-up (m * up e) (down e) (n * up d) (down d) (l * up g) (down g) (down-pos e) (down-pos d) (down-pos g) (or-le _ _ true h) (ltb→lt _ _ k))
+    lt→ltb _ _ (up-up (m * up e) (down e) (n * up d) (down d) (l * up g) (down g) (down-pos e) (down-pos d) (down-pos g)
+    (or-le _ _ true h) (ltb→lt _ _ k))
 le-lt-trans (fin false m e) (fin false n d) (fin true l g) h k = absurd k
 le-lt-trans (fin false m e) (fin true n d) (fin false l g) h k =
-    lt→ltb _ _ (zeros (m * up e) (down e) (n * up d) (down d) (l * up g) (down g) (down-pos e) (down-pos d) (down-pos g) (both-eq _ _ h .0) (both-eq _ _ h .1) (ltb→lt _ _ k))
+    lt→ltb _ _ (zeros (m * up e) (down e) (n * up d) (down d) (l * up g) (down g) (down-pos e) (down-pos d) (down-pos g)
+    (both-eq _ _ h .0) (both-eq _ _ h .1) (ltb→lt _ _ k))
 le-lt-trans (fin false m e) (fin true n d) (fin true l g) h k =
-    absurd (zeros-not (m * up e) (down e) (n * up d) (down d) (l * up g) (down g) (down-pos e) (down-pos d) (down-pos g) (both-eq _ _ h .0) (both-eq _ _ h .1) (ltb→lt _ _ k))
+    absurd (zeros-not (m * up e) (down e) (n * up d) (down d) (l * up g) (down g) (down-pos e) (down-pos d) (down-pos g)
+    (both-eq _ _ h .0) (both-eq _ _ h .1) (ltb→lt _ _ k))
 le-lt-trans (fin true m e) (fin false n d) (fin false l g) h k =
     lt→ltb _ _ (down-up (m * up e) (down e) (n * up d) (down d) (l * up g) (down g) (down-pos e) (down-pos d) (down-pos g) (ltb→lt _ _ k))
 le-lt-trans (fin true m e) (fin false n d) (fin true l g) h k = absurd k
 le-lt-trans (fin true m e) (fin true n d) (fin false l g) h k =
-    lt→ltb _ _ (down-down-up (m * up e) (down e) (n * up d) (down d) (l * up g) (down g) (down-pos e) (down-pos d) (down-pos g) (or-ge _ _ true h) (ltb→lt _ _ k))
+    lt→ltb _ _ (down-down-up (m * up e) (down e) (n * up d) (down d) (l * up g) (down g) (down-pos e) (down-pos d) (down-pos g)
+    (or-ge _ _ true h) (ltb→lt _ _ k))
 le-lt-trans (fin true m e) (fin true n d) (fin true l g) h k =
-    lt→ltb _ _ (down-down (m * up e) (down e) (n * up d) (down d) (l * up g) (down g) (down-pos e) (down-pos d) (down-pos g) (or-ge _ _ true h) (ltb→lt _ _ k))
+    lt→ltb _ _ (down-down (m * up e) (down e) (n * up d) (down d) (l * up g) (down g) (down-pos e) (down-pos d) (down-pos g)
+    (or-ge _ _ true h) (ltb→lt _ _ k))
 
 pub lt-le : (x y : Float) → T (lt x y) → T (le x y)
 unfolding le

@@ -28,7 +28,9 @@ unfolding ofBits le
 nonneg nan f h = absurd f
 nonneg (inf s) f h = absurd f
 nonneg (fin false m e) f h = tt
-nonneg (fin true m e) f h = no-factor m (up e) (up-pos e) (no-factor (m * up e) 1 (lit< tt) (sym (both-eq (0 * down e) (m * up e * 1) h .0) ∙ zero-mul (down e)))
+nonneg (fin true m e) f h =
+    no-factor m (up e) (up-pos e)
+    (no-factor (m * up e) 1 (lit< tt) (sym (both-eq (0 * down e) (m * up e * 1) h .0) ∙ zero-mul (down e)))
 
 pub round-zero : (s : Bool) (c : ℕ) → 0 < c → round binary32 s 0 c ≡ fin s 0 (pos 0)
 unfolding round
@@ -69,15 +71,24 @@ unfolding le
 lower x y z v p q r h k = go (prod x z p r) (prod y z q r)
   where
     less : num x * num z * (den y * den z) ≤ num y * num z * (den x * den z)
-    less = rw (mul-mul-mul-comm (num x) (num z) (den y) (den z), mul-mul-mul-comm (num y) (num z) (den x) (den z)) (mul-le-mul-right (num z * den z) (cross x y p q h))
+    less =
+        rw (mul-mul-mul-comm (num x) (num z) (den y) (den z), mul-mul-mul-comm (num y) (num z) (den x) (den z))
+        (mul-le-mul-right (num z * den z) (cross x y p q h))
 
     D : (a : Float) → 0 < den a * den z
     D a = mul-pos (den-pos a) (den-pos z)
 
     go : (mul binary32 x z ≡ round binary32 false (num x * num z) (den x * den z)) ⊎ ((mul binary32 x z ≡ fin true 0 (pos 0)) × (num x * num z ≡ 0))
-        → (mul binary32 y z ≡ round binary32 false (num y * num z) (den y * den z)) ⊎ ((mul binary32 y z ≡ fin true 0 (pos 0)) × (num y * num z ≡ 0)) → T (lt (mul binary32 x z) v)
+        → (mul binary32 y z ≡ round binary32 false (num y * num z) (den y * den z))
+        ⊎ ((mul binary32 y z ≡ fin true 0 (pos 0)) × (num y * num z ≡ 0)) → T (lt (mul binary32 x z) v)
     go (inl a) (inl b) =
-        rw a (le-lt-trans (round binary32 false (num x * num z) (den x * den z)) (round binary32 false (num y * num z) (den y * den z)) v (round-mono binary32 (num x * num z) (den x * den z) (num y * num z) (den y * den z) (D x) (D y) less) (rw b at k))
+        rw a
+        (le-lt-trans
+        (round binary32 false (num x * num z) (den x * den z))
+        (round binary32 false (num y * num z) (den y * den z))
+        v
+        (round-mono binary32 (num x * num z) (den x * den z) (num y * num z) (den y * den z) (D x) (D y) less)
+        (rw b at k))
     go (inl a) (inr b) =
         let e : num y * num z * (den x * den z) ≡ 0 = ap (λ (n : ℕ). n * (den x * den z)) (b .1) ∙ zero-mul _ in
         let o : num x * num z ≡ 0 = no-factor (num x * num z) (den y * den z) (D y) (omega (arith, less)) in
@@ -86,7 +97,9 @@ lower x y z v p q r h k = go (prod x z p r) (prod y z q r)
         let o : T (le (fin false 0 (pos 0)) (round binary32 false (num y * num z) (den y * den z))) =
         rw (round-zero false 1 (lit< tt)) at (round-mono binary32 0 1 (num y * num z) (den y * den z) (lit< tt) (D y) (rw zero-mul (zero-le)))
         in
-        rw (a .0) (le-lt-trans (fin true 0 (pos 0)) (fin false 0 (pos 0)) v tt (le-lt-trans (fin false 0 (pos 0)) (round binary32 false (num y * num z) (den y * den z)) v o (rw b at k)))
+        rw (a .0)
+        (le-lt-trans (fin true 0 (pos 0)) (fin false 0 (pos 0)) v tt
+        (le-lt-trans (fin false 0 (pos 0)) (round binary32 false (num y * num z) (den y * den z)) v o (rw b at k)))
     go (inr a) (inr b) = rw (a .0) (rw (b .0) at k)
 
 -- what lies between zero and a finite number is finite
@@ -132,7 +145,8 @@ infinite-product (fin s m e) v h = go s (eqb m 0) refl v h
         absurd (true≢false (sym (eq-eqb m 0 z) ∙ q))
 
 -- two fractions between 0 and 1: what is above the larger's product is above the smaller's
-pub fraction-lower : (x y z v : Float) → T (le f0 x) → T (le x y) → T (le f0 y) → T (le y f1) → T (le f0 z) → T (lt (mul binary32 y z) v) → T (lt (mul binary32 x z) v)
+pub fraction-lower : (x y z v : Float) → T (le f0 x) → T (le x y) → T (le f0 y) → T (le y f1) → T (le f0 z)
+    → T (lt (mul binary32 y z) v) → T (lt (mul binary32 x z) v)
 unfolding ofBits le
 fraction-lower x y nan v a b c d g k = absurd g
 fraction-lower x y (inf true) v a b c d g k = absurd g
@@ -145,7 +159,8 @@ unfolding ofBits le mul
 zero-product nan v h l n = absurd h
 zero-product (inf true) v h l n = absurd h
 zero-product (inf false) v h l n = absurd l
-zero-product (fin s m e) v h l n = rw (mul-zero (m * up e), round-zero (unlike s false) (down e * 1) (mul-pos (down-pos e) (lit< tt))) (stays (unlike s false))
+zero-product (fin s m e) v h l n =
+    rw (mul-zero (m * up e), round-zero (unlike s false) (down e * 1) (mul-pos (down-pos e) (lit< tt))) (stays (unlike s false))
   where
     zeros : (t : Bool) → T (le f0 (fin t 0 (pos 0)))
     zeros true = tt

@@ -31,7 +31,8 @@ exact k l =
     let m : 1 + (149 - k) ≤ 277 = omega arith in
     let e : 149 ≡ 149 - k + k = omega arith in
     let h : 1 * 2 ^ (149 - k) < 2 ^ 277 = lt-of-lt-of-le (shl-lt 1 (149 - k) (lit< tt)) (pow-mono m) in
-    round-exact binary32 false 1 (2 ^ k) 1 (149 - k) (pow-pos k) (lit< tt) h (ap (λ (i : ℕ). 1 * 2 ^ i) e ∙ ap (λ (x : ℕ). 1 * x) (pow-add 2 (149 - k) k) ∙ sym (mul-assoc 1 (2 ^ (149 - k)) (2 ^ k)))
+    round-exact binary32 false 1 (2 ^ k) 1 (149 - k) (pow-pos k) (lit< tt) h
+    (ap (λ (i : ℕ). 1 * 2 ^ i) e ∙ ap (λ (x : ℕ). 1 * x) (pow-add 2 (149 - k) k) ∙ sym (mul-assoc 1 (2 ^ (149 - k)) (2 ^ k)))
 
 pub ranged-sized : {a c n : ℕ} {x : Float} → Ranged a c n x → Sized false n x
 ranged-sized (ranged h k) = sized k
@@ -47,14 +48,17 @@ pub ranged-least : {a c n : ℕ} {x : Float} (lo : Float) → 0 < c → HasValue
 ranged-least {a} {c} lo C v (ranged {m = m} {e = e} h k) = le-of-values lo (fin false m e) a c (m * up e) (down e) C (down-pos e) v (refl, refl) h
 
 pub ranged-most : {a c n : ℕ} {x : Float} (hi : Float) → HasValue hi false n 1 → Ranged a c n x → T (le x hi)
-ranged-most {n = n} hi v (ranged {m = m} {e = e} h k) = le-of-values (fin false m e) hi (m * up e) (down e) n 1 (down-pos e) (lit< tt) (refl, refl) v (rw mul-one k)
+ranged-most {n = n} hi v (ranged {m = m} {e = e} h k) =
+    le-of-values (fin false m e) hi (m * up e) (down e) n 1 (down-pos e) (lit< tt) (refl, refl) v (rw mul-one k)
 
 pub ranged-finite : {a c n : ℕ} {x : Float} → Ranged a c n x → T (finite x)
 ranged-finite (ranged h k) = tt
 
 pub ranged-above : {a c n : ℕ} {x : Float} → Ranged a c n x → T (le f0 x)
 unfolding ofBits
-ranged-above (ranged {m = m} {e = e} h k) = le-of-values (fin false 0 (pos 0)) (fin false m e) 0 1 (m * up e) (down e) (lit< tt) (down-pos e) (refl, refl) (refl, refl) (omega (arith, zero-mul (down e)))
+ranged-above (ranged {m = m} {e = e} h k) =
+    le-of-values (fin false 0 (pos 0)) (fin false m e) 0 1 (m * up e) (down e) (lit< tt) (down-pos e) (refl, refl) (refl, refl)
+    (omega (arith, zero-mul (down e)))
 
 -- a whole number
 pub ranged-whole : (n k : ℕ) (x : Float) → HasValue x false k 1 → 1 ≤ k → k ≤ n → Ranged 1 1 n x
@@ -73,12 +77,16 @@ unfolding le
 from-le a c n nan x v t s = absurd v
 from-le a c n (inf b) x v t s = absurd v
 from-le a c n (fin true k d) x v t s = absurd (true≢false (v .0))
-from-le a c n (fin false k d) (fin false m e) v t (sized h) = ranged (through a (k * up d) (m * up e) c (down d) (down e) (down-pos d) (le-of-eq (sym (v .1))) (or-le _ _ true t)) h
+from-le a c n (fin false k d) (fin false m e) v t (sized h) =
+    ranged
+    (through a (k * up d) (m * up e) c (down d) (down e) (down-pos d) (le-of-eq (sym (v .1))) (or-le _ _ true t))
+    h
 
 -- p / z rounded
 module _ (a c n p z : ℕ) (C : 0 < c) (Z : 0 < z) (E : Exact a c) (H : Held n) where
   pub round-ranged : a * z ≤ p * c → p ≤ n * z → Ranged a c n (round binary32 false p z)
-  round-ranged l u = from-le a c n (round binary32 false a c) (round binary32 false p z) E (round-mono binary32 a c p z C Z l) (round-sized false p z n Z H u)
+  round-ranged l u =
+      from-le a c n (round binary32 false a c) (round binary32 false p z) E (round-mono binary32 a c p z C Z l) (round-sized false p z n Z H u)
 
 -- ---- a sum, one of whose terms is at least a / c
 
@@ -86,7 +94,9 @@ module _ (r : ℕ) {a c n q : ℕ} (C : 0 < c) (E : Exact a c) (H : Held r) (l :
   pub add-left : {x y : Float} → Ranged a c n x → Sized false q y → Ranged a c r (add binary32 x y)
   unfolding add sum
   add-left {x} {y} (ranged {m = m} {e = e} h k) (sized {m = i} {e = d} g) =
-      from-le a c r (round binary32 false a c) _ E (round-mono binary32 a c (m * up e * down d + i * up d * down e) (down e * down d) C (mul-pos (down-pos e) (down-pos d)) low) (add-plus r H l (sized {e = e} k) (sized {e = d} g))
+      from-le a c r (round binary32 false a c) _ E
+      (round-mono binary32 a c (m * up e * down d + i * up d * down e) (down e * down d) C (mul-pos (down-pos e) (down-pos d)) low)
+      (add-plus r H l (sized {e = e} k) (sized {e = d} g))
     where
       low : a * (down e * down d) ≤ (m * up e * down d + i * up d * down e) * c
       low = omega (arith, mul-le-mul-right (down d) h)
@@ -94,14 +104,17 @@ module _ (r : ℕ) {a c n q : ℕ} (C : 0 < c) (E : Exact a c) (H : Held r) (l :
   pub add-right : {x y : Float} → Sized false n x → Ranged a c q y → Ranged a c r (add binary32 x y)
   unfolding add sum
   add-right {x} {y} (sized {m = m} {e = e} g) (ranged {m = i} {e = d} h k) =
-      from-le a c r (round binary32 false a c) _ E (round-mono binary32 a c (m * up e * down d + i * up d * down e) (down e * down d) C (mul-pos (down-pos e) (down-pos d)) low) (add-plus r H l (sized {e = e} g) (sized {e = d} k))
+      from-le a c r (round binary32 false a c) _ E
+      (round-mono binary32 a c (m * up e * down d + i * up d * down e) (down e * down d) C (mul-pos (down-pos e) (down-pos d)) low)
+      (add-plus r H l (sized {e = e} g) (sized {e = d} k))
     where
       low : a * (down e * down d) ≤ (m * up e * down d + i * up d * down e) * c
       low = omega (arith, mul-le-mul-right (down e) h)
 
 -- ---- by a known fraction p / q
 
-module _ (a c n a′ c′ n′ p q : ℕ) (C : 0 < c) (C′ : 0 < c′) (Q : 0 < q) (E : Exact a′ c′) (H : Held n′) (l : a′ * (c * q) ≤ a * p * c′) (u : n * p ≤ n′ * q) where
+module _ (a c n a′ c′ n′ p q : ℕ) (C : 0 < c) (C′ : 0 < c′) (Q : 0 < q) (E : Exact a′ c′) (H : Held n′)
+    (l : a′ * (c * q) ≤ a * p * c′) (u : n * p ≤ n′ * q) where
   part : (m : ℕ) (e : ℤ) → a * down e ≤ m * up e * c → m * up e ≤ n * down e → Ranged a′ c′ n′ (round binary32 false (m * up e * p) (down e * q))
   part m e h k = round-ranged a′ c′ n′ (m * up e * p) (down e * q) C′ (mul-pos (down-pos e) Q) E H low high
     where
@@ -118,7 +131,9 @@ module _ (a c n a′ c′ n′ p q : ℕ) (C : 0 < c) (C′ : 0 < c′) (Q : 0 <
   mul-ranged (inf s) r v = absurd v
   mul-ranged (fin true i d) r v = absurd (true≢false (v .0))
   mul-ranged (fin false i d) (ranged {m = m} {e = e} h k) v =
-      rw (round-same binary32 false (m * up e * (i * up d)) (down e * down d) (m * up e * p) (down e * q) (mul-pos (down-pos e) (down-pos d)) (mul-pos (down-pos e) Q) (omega (arith, ap (λ (z : ℕ). z * (m * up e * down e)) (v .1))))
+      rw (round-same binary32 false (m * up e * (i * up d)) (down e * down d) (m * up e * p) (down e * q)
+      (mul-pos (down-pos e) (down-pos d)) (mul-pos (down-pos e) Q)
+      (omega (arith, ap (λ (z : ℕ). z * (m * up e * down e)) (v .1))))
       (part m e h k)
 
   -- by q / p
@@ -131,7 +146,9 @@ module _ (a c n a′ c′ n′ p q : ℕ) (C : 0 < c) (C′ : 0 < c′) (Q : 0 <
       let o : 0 < i * up d = first-pos (i * up d) p (rw (v .1) (mul-pos Q (down-pos d))) in
       let j : 0 < i = first-pos i (up d) o in
       rw (ne-eqb i 0 (λ z. omega arith))
-      (rw (round-same binary32 false (m * up e * down d) (i * up d * down e) (m * up e * p) (down e * q) (mul-pos o (down-pos e)) (mul-pos (down-pos e) Q) (omega (arith, ap (λ (z : ℕ). z * (m * up e * down e)) (v .1))))
+      (rw (round-same binary32 false (m * up e * down d) (i * up d * down e) (m * up e * p) (down e * q)
+      (mul-pos o (down-pos e)) (mul-pos (down-pos e) Q)
+      (omega (arith, ap (λ (z : ℕ). z * (m * up e * down e)) (v .1))))
       (part m e h k))
 
 -- ---- zero: what is added, multiplied and divided stays zero

@@ -3,7 +3,8 @@
 use mathlib.Core.Path.{_≡_, refl, sym, ap, _∙_, subst}
 use mathlib.Core.Bool.{Bool, true, false, not, cond, _&&_, _||_, Bool·beq, true≢false}
 use Prim.Native.Nat.{ℕ, zero, suc, _+_, _-_, _*_, _^_, _≤_, _<_}
-use native.Mathlib.Nat.{le-trans, le-of-eq, le-of-lt, lt-of-lt-of-le, mul-comm, mul-assoc, mul-right-comm, mul-mul-mul-comm, mul-one, zero-mul, add-mul, mul-le-mul, mul-le-mul-right, le-of-mul-le-mul-right, mul-pos}
+use native.Mathlib.Nat.{le-trans, le-of-eq, le-of-lt, lt-of-lt-of-le, mul-comm, mul-assoc, mul-right-comm, mul-mul-mul-comm}
+use native.Mathlib.Nat.{mul-one, zero-mul, add-mul, mul-le-mul, mul-le-mul-right, le-of-mul-le-mul-right, mul-pos}
 use native.Mathlib.Omega.{arith}
 use lib.Dec.{T, lit<, ltb, eqb, ltb→lt, eqb→eq}
 use lib.Pow.{pow-add, pow-mono, shl-lt}
@@ -48,7 +49,8 @@ below n m e (fin true k d) t v = absurd (true≢false (v .0))
 below n m e (fin false k d) t v =
     let a = m * up e * down d in
     let b = k * up d * down e in
-    let h : a ≤ b = or-cases (ltb a b) (eqb a b && (true || eqb a 0)) (λ u. le-of-lt (ltb→lt a b u)) (λ u. le-of-eq (eqb→eq a b (and-l (eqb a b) true u))) t in
+    let h : a ≤ b =
+    or-cases (ltb a b) (eqb a b && (true || eqb a 0)) (λ u. le-of-lt (ltb→lt a b u)) (λ u. le-of-eq (eqb→eq a b (and-l (eqb a b) true u))) t in
     le-of-mul-le-mul-right {k = down d}
     (le-trans h (le-of-eq (ap (λ (x : ℕ). x * down e) (sym (mul-one _) ∙ v .1) ∙ mul-right-comm n (down d) (down e)))) (down-pos d)
 
@@ -76,7 +78,8 @@ round-sized s a c n C v h =
 
 -- ---- the operations: r is a value of the format that the exact result cannot pass
 
-pub mul-sized : {s t : Bool} {p q : ℕ} {x y : Float} (r : ℕ) → Held r → p * q ≤ r → Sized s p x → Sized t q y → Sized (unlike s t) r (mul binary32 x y)
+pub mul-sized : {s t : Bool} {p q : ℕ} {x y : Float} (r : ℕ) → Held r → p * q ≤ r → Sized s p x → Sized t q y
+    → Sized (unlike s t) r (mul binary32 x y)
 unfolding mul
 mul-sized {p = p} {q = q} r v l (sized {e = e} h) (sized {e = d} k) =
     round-sized _ _ _ r (mul-pos (down-pos e) (down-pos d)) v
@@ -94,7 +97,8 @@ module _ (a b c p q r : ℕ) (v : Held r) (C : 0 < c) (A : a ≤ p * c) (B : b �
   unfolding sum
   sum-small s t = go (Bool·beq s t) (ltb a b)
     where
-      go : (u w : Bool) → Small r (cond u (round binary32 s (a + b) c) (cond w (round binary32 t (b - a) c) (round binary32 (s && ltb b a) (a - b) c)))
+      go : (u w : Bool)
+          → Small r (cond u (round binary32 s (a + b) c) (cond w (round binary32 t (b - a) c) (round binary32 (s && ltb b a) (a - b) c)))
       go true w = small (round-sized s (a + b) c r C v both)
       go false true = small (round-sized t (b - a) c r C v (omega (arith, both)))
       go false false = small (round-sized (s && ltb b a) (a - b) c r C v (omega (arith, both)))
@@ -112,12 +116,14 @@ right b q e d h = le-trans (left b q d e h) (le-of-eq (ap (λ (x : ℕ). q * x) 
 pub add-small : {p q : ℕ} {x y : Float} (r : ℕ) → Held r → p + q ≤ r → Small p x → Small q y → Small r (add binary32 x y)
 unfolding add
 add-small {p} {q} r v l (small (sized {s = s} {m = m} {e = e} h)) (small (sized {s = t} {m = n} {e = d} k)) =
-    sum-small (m * up e * down d) (n * up d * down e) (down e * down d) p q r v (mul-pos (down-pos e) (down-pos d)) (left _ p (down e) (down d) h) (right _ q (down e) (down d) k) l s t
+    sum-small (m * up e * down d) (n * up d * down e) (down e * down d) p q r v (mul-pos (down-pos e) (down-pos d))
+    (left _ p (down e) (down d) h) (right _ q (down e) (down d) k) l s t
 
 pub add-plus : {p q : ℕ} {x y : Float} (r : ℕ) → Held r → p + q ≤ r → Sized false p x → Sized false q y → Sized false r (add binary32 x y)
 unfolding add
 add-plus {p} {q} r v l (sized {m = m} {e = e} h) (sized {m = n} {e = d} k) =
-    sum-plus (m * up e * down d) (n * up d * down e) (down e * down d) p q r v (mul-pos (down-pos e) (down-pos d)) (left _ p (down e) (down d) h) (right _ q (down e) (down d) k) l
+    sum-plus (m * up e * down d) (n * up d * down e) (down e * down d) p q r v (mul-pos (down-pos e) (down-pos d))
+    (left _ p (down e) (down d) h) (right _ q (down e) (down d) k) l
 
 pub neg-small : {n : ℕ} {x : Float} → Small n x → Small n (neg x)
 unfolding neg
@@ -132,7 +138,8 @@ twice : (s : Bool) → unlike (unlike false s) s ≡ false
 twice true = refl
 twice false = refl
 
-pub square-plus : {p q : ℕ} {c x : Float} (u r : ℕ) → Held u → Held r → p * q ≤ u → u * q ≤ r → Sized false p c → Small q x → Sized false r (mul binary32 (mul binary32 c x) x)
+pub square-plus : {p q : ℕ} {c x : Float} (u r : ℕ) → Held u → Held r → p * q ≤ u → u * q ≤ r → Sized false p c → Small q x
+    → Sized false r (mul binary32 (mul binary32 c x) x)
 square-plus u r v w l m h (small {s = s} k) = rw twice at (mul-sized r w m (mul-sized u v l h k) k)
 
 -- ---- from a comparison: from 0 to a value hi of the format that is n
@@ -146,7 +153,8 @@ small-of-le n hi nan v l h = absurd l
 small-of-le n hi (inf true) v l h = absurd l
 small-of-le n hi (inf false) v l h = absurd (not-inf n hi h v)
 small-of-le n hi (fin false m e) v l h = small (sized (below n m e hi h v))
-small-of-le n hi (fin true m e) v l h = small (sized (zero-left (m * up e) (n * down e) (down e) (eqb→eq _ _ (and-l (eqb (0 * 1 * down e) (m * up e * 1)) _ l))))
+small-of-le n hi (fin true m e) v l h =
+    small (sized (zero-left (m * up e) (n * down e) (down e) (eqb→eq _ _ (and-l (eqb (0 * 1 * down e) (m * up e * 1)) _ l))))
 
 -- ---- no NaN
 
@@ -174,4 +182,5 @@ zeroFloat (fin s m e) = eqb m 0
 
 pub div-number : {p q : ℕ} {x y : Float} → Small p x → Small q y → zeroFloat y ≡ false → T (not (isNan (div binary32 x y)))
 unfolding div
-div-number (small (sized {s = s} {m = m} {e = e} h)) (small (sized {s = t} {m = n} {e = d} k)) z = rw z (round-number (unlike s t) (m * up e * down d) (n * up d * down e))
+div-number (small (sized {s = s} {m = m} {e = e} h)) (small (sized {s = t} {m = n} {e = d} k)) z =
+    rw z (round-number (unlike s t) (m * up e * down d) (n * up d * down e))

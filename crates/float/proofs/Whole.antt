@@ -26,7 +26,8 @@ mul-whole f (fin false a e) (fin true b d) m n p q =
 mul-whole f (fin false a e) (fin false b d) m n p q =
     let u : a * up e ≡ m * down e = sym (mul-one _) ∙ p .1 in
     let v : b * up d ≡ n * down d = sym (mul-one _) ∙ q .1 in
-    round-same f false (a * up e * (b * up d)) (down e * down d) (m * n) 1 (mul-pos (down-pos e) (down-pos d)) (lit< tt) (mul-one _ ∙ rw (u, v) (mul-mul-mul-comm m (down e) n (down d)))
+    round-same f false (a * up e * (b * up d)) (down e * down d) (m * n) 1 (mul-pos (down-pos e) (down-pos d)) (lit< tt)
+    (mul-one _ ∙ rw (u, v) (mul-mul-mul-comm m (down e) n (down d)))
 
 -- what `n as f32` asks
 pub casts : (n : ℕ) → n ≤ 2 ^ 24 → T (inFloat binary32 (pos n))

@@ -20,7 +20,8 @@ pub all-map : {A : Type 0} (P Q : A → Type 0) → ((a : A) → P a → Q a) �
 all-map P Q f [] p = tt
 all-map P Q f (a ∷ l) p = (f a (p .0), all-map P Q f l (p .1))
 
-all-each : {A B : Type 0} (P : B → Type 0) (Q : A → Type 0) (f : A → List B) → ((a : A) → Q a → all P (f a)) → (l : List A) → all Q l → all P (each f l)
+all-each : {A B : Type 0} (P : B → Type 0) (Q : A → Type 0) (f : A → List B) → ((a : A) → Q a → all P (f a)) → (l : List A)
+    → all Q l → all P (each f l)
 unfolding each
 all-each P Q f h [] q = tt
 all-each P Q f h (a ∷ l) q = all-append P (f a) (each f l) (h a (q .0)) (all-each P Q f h l (q .1))
@@ -58,7 +59,10 @@ InRect ax ex ay ey p = Between ax ex (p .x) × Between ay ey (p .y)
 
 pub all-rect : (ax ex ay ey : ℕ) → all (InRect ax ex ay ey) (rect ax ex ay ey)
 unfolding rect line
-all-rect ax ex ay ey = all-each _ (Between ay ey) _ (λ y b. all-each _ (Between ax ex) (λ x. place x y ∷ []) (λ x a. ((a, b), tt)) (range ax ex) (all-range ax ex)) (range ay ey) (all-range ay ey)
+all-rect ax ex ay ey =
+    all-each _ (Between ay ey) _
+    (λ y b. all-each _ (Between ax ex) (λ x. place x y ∷ []) (λ x a. ((a, b), tt)) (range ax ex) (all-range ax ex))
+    (range ay ey) (all-range ay ey)
 
 -- ---- what agrees on every entry gives the same
 

@@ -1,4 +1,5 @@
--- Laws of `each f l`: f of every entry of l, one after the other. A filter, a row of places and a list of numbers are each an `each`, so `each-append` serves
+-- Laws of `each f l`: f of every entry of l, one after the other. A filter, a row of places and a list of numbers are
+-- each an `each`, so `each-append` serves
 use mathlib.Core.Path.{_≡_, refl, sym, ap, _∙_}
 use mathlib.Core.Bool.{Bool, true, false, _&&_, _||_, or-assoc, or-true}
 use Prim.Native.Nat.{ℕ, zero, suc, _+_, _*_, _≤_}
@@ -128,7 +129,13 @@ module _ {A B : Type 0} (g : A → B) where
   unfolding count keep each
   count-made p [] = refl
   count-made p (a ∷ l) =
-      omega (arith, length-append (once (p (g a)) (g a)) (keep p (each (λ b. g b ∷ []) l)), length-append (once (p (g a)) a) (keep (λ b. p (g b)) l), one (p (g a)), count-made p l)
+      omega (
+        arith,
+        length-append (once (p (g a)) (g a)) (keep p (each (λ b. g b ∷ []) l)),
+        length-append (once (p (g a)) a) (keep (λ b. p (g b)) l),
+        one (p (g a)),
+        count-made p l,
+      )
     where
       one : (b : Bool) → length (once b (g a)) ≡ length (once b a)
       one true = refl

@@ -74,7 +74,8 @@ module _ {ℓ} {A : Type ℓ} where
   written-same zero f xs ys h l = refl
   written-same (suc n) f [] ys h l = absurd (not-suc-le-zero h)
   written-same (suc n) f (x ∷ xs) [] h l = absurd (not-suc-le-zero l)
-  written-same (suc n) f (x ∷ xs) (y ∷ ys) h l = ap (λ (r : List A). f zero ∷ r) (written-same n (λ k. f (suc k)) xs ys (le-of-suc-le-suc h) (le-of-suc-le-suc l))
+  written-same (suc n) f (x ∷ xs) (y ∷ ys) h l =
+      ap (λ (r : List A). f zero ∷ r) (written-same n (λ k. f (suc k)) xs ys (le-of-suc-le-suc h) (le-of-suc-le-suc l))
 
   -- ---- equal buffers
 

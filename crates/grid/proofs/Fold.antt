@@ -1,4 +1,5 @@
--- Laws of `fold op z f n`: op applied from the left, as a loop does it: z, then f 0, f 1, .. f (n - 1). Whole sums, f32 sums in order and the greatest
+-- Laws of `fold op z f n`: op applied from the left, as a loop does it: z, then f 0, f 1, .. f (n - 1). Whole sums, f32
+-- sums in order and the greatest
 use mathlib.Core.Path.{_≡_, refl, sym, ap, _∙_}
 use Prim.Native.Nat.{ℕ, zero, suc, _+_, _-_, _*_, _≤_, _<_}
 use native.Mathlib.Nat.{mul-suc, add-zero, add-suc}
@@ -66,7 +67,8 @@ module _ {A B : Type 0} (op : A → B → A) (z : A) where
 
 module _ {A B : Type 0} (op : A → B → A) (z : A) (f : ℕ → B) (a e : ℕ) where
   -- several entries at once
-  pub folding-part : {i : ℕ} {acc r : A} (d j : ℕ) → Folding op z f a e i acc → j ≡ i + d → j ≤ e → r ≡ fold op acc (λ k. f (i + k)) d → Folding op z f a e j r
+  pub folding-part : {i : ℕ} {acc r : A} (d j : ℕ) → Folding op z f a e i acc → j ≡ i + d → j ≤ e
+      → r ≡ fold op acc (λ k. f (i + k)) d → Folding op z f a e j r
   folding-part {i} {acc} d j t q b u =
       let g : ℕ → B = λ k. f (a + k) in
       let n : j - a ≡ i - a + d = omega arith in
@@ -74,7 +76,8 @@ module _ {A B : Type 0} (op : A → B → A) (z : A) (f : ℕ → B) (a e : ℕ)
       record { least = omega arith; most = b; is = u ∙ w ∙ rw (n, fold-more op z g (i - a) d, t .is) }
 
   -- and all that are left
-  pub folding-rest : {i : ℕ} {acc r : A} → Folding op z f a e i acc → r ≡ fold op acc (λ k. f (i + k)) (e - i) → r ≡ fold op z (λ k. f (a + k)) (e - a)
+  pub folding-rest : {i : ℕ} {acc r : A} → Folding op z f a e i acc → r ≡ fold op acc (λ k. f (i + k)) (e - i)
+      → r ≡ fold op z (λ k. f (a + k)) (e - a)
   folding-rest {i} t u = folding-part (e - i) e t (omega arith) (omega arith) u .is
 
 -- in two parts, each folded from z, where op lets them be grouped so: the law behind every running sum

@@ -1,6 +1,8 @@
--- The invariants of loops that fill a buffer, with the laws for a loop's start, its turn and its end. There is one record, over what the steps up to i write.
+-- The invariants of loops that fill a buffer, with the laws for a loop's start, its turn and its end. There is one
+-- record, over what the steps up to i write.
 -- `for i in 0..n { out[i] = v; }` keeps `Line`. `for y in 0..h { let row = y * w; for x in 0..w { out[row + x] = v; } }` keeps `Rows` and `Row`.
--- An inner loop knows the buffer as it was where that loop began, so `old` in `Row` is that. omega reads the fields: an index wants no law. Assumes nothing.
+-- An inner loop knows the buffer as it was where that loop began, so `old` in `Row` is that. omega reads the fields: an
+-- index wants no law. Assumes nothing.
 use mathlib.Core.Path.{_≡_, refl, sym, ap, _∙_}
 use Prim.Native.Nat.{ℕ, _+_, _*_, _≤_, _<_}
 use native.Mathlib.Nat.{add-zero, add-assoc, zero-mul, mul-comm, mul-le-mul-right, le-antisymm}
@@ -39,7 +41,8 @@ module _ {ℓ} {A : Type ℓ} {a e : ℕ} {put : ℕ → List A → List A} {xs 
   pub steps-all : {ys : List A} {i : ℕ} → Steps a e put xs ys i → e ≤ i → ys ≡ put e xs
   steps-all r m = rw (← le-antisymm (r .most) m) (r .fill)
 
-module _ {ℓ} {A : Type ℓ} {a e : ℕ} {put : ℕ → List A → List A} (over : (i j : ℕ) (xs : List A) → i ≤ j → put j (put i xs) ≡ put j xs) {xs ys : List A} {i : ℕ} (r : Steps a e put xs ys i) where
+module _ {ℓ} {A : Type ℓ} {a e : ℕ} {put : ℕ → List A → List A}
+    (over : (i j : ℕ) (xs : List A) → i ≤ j → put j (put i xs) ≡ put j xs) {xs ys : List A} {i : ℕ} (r : Steps a e put xs ys i) where
   -- a second loop that goes on where the first stopped: `steps-on` is its start, `steps-join` puts both together
   pub steps-on : Steps a e put ys ys i
   steps-on = record { least = r .least; most = r .most; fill = r .fill ∙ sym (over i i xs (omega arith)) ∙ ap (put i) (sym (r .fill)); long = refl }
@@ -62,7 +65,12 @@ module _ {ℓ} {A : Type ℓ} (n : ℕ) (f : ℕ → A) (xs : List A) where
   line-none = record { least = omega arith; most = omega arith; fill = filled-zero f xs; long = refl }
 
   pub line-more : {ys : List A} {i : ℕ} {v : A} → Line n f xs ys i → i < n → v ≡ f i → Line n f xs (set ys i v) (i + 1)
-  line-more {ys} {i} {v} r b e = record { least = omega arith; most = omega arith; fill = fill-step f xs i (r .fill) e; long = length-set ys i v ∙ r .long }
+  line-more {ys} {i} {v} r b e = record {
+    least = omega arith;
+    most = omega arith;
+    fill = fill-step f xs i (r .fill) e;
+    long = length-set ys i v ∙ r .long;
+  }
 
   pub line-all : {ys : List A} {i : ℕ} → Line n f xs ys i → n ≤ i → ys ≡ filled n f xs
   line-all r m = steps-all r m
@@ -120,5 +128,6 @@ module _ {ℓ} {A : Type ℓ} (w h : ℕ) (g : ℕ → ℕ → A) (xs : List A) 
   rows-join r q b = steps-join over-rows r q b
 
   -- an entry at (a, b) that an earlier turn stored, read back
-  pub row-read : {ys : List A} {x y k : ℕ} → Row w h g xs ys y x → w * h ≤ length xs → (d : A) (a b : ℕ) → a < w → k ≡ b * w + a → k < y * w + x → getD ys k d ≡ g a b
+  pub row-read : {ys : List A} {x y k : ℕ} → Row w h g xs ys y x → w * h ≤ length xs → (d : A) (a b : ℕ) → a < w → k ≡ b * w + a
+      → k < y * w + x → getD ys k d ≡ g a b
   row-read {ys} {x} {y} {k} r l d a b m e u = rw (e, r .steps .fill) (getD-plane m (y * w + x) g xs b d (omega arith) (omega arith))

@@ -1,4 +1,5 @@
--- Laws of A list of whole entries in a buffer that may be too short: `written k f l old` has the k numbers of each entry of l, as far as whole entries fit.
+-- Laws of A list of whole entries in a buffer that may be too short: `written k f l old` has the k numbers of each
+-- entry of l, as far as whole entries fit.
 use mathlib.Core.Path.{_≡_, refl, sym, ap, _∙_}
 use mathlib.Core.Bool.{Bool, true, false}
 use Prim.Native.Nat.{ℕ, zero, suc, _+_, _*_, _/_, _≤_, _<_, min}
@@ -55,7 +56,8 @@ module _ {A B : Type 0} (k : ℕ) (f : A → List B) (p : A → Bool) (old : Lis
   listed-no l a h e = record { count = rw (keep-no p l a e) (h .count); fill = rw (keep-no p l a e) (h .fill); long = h .long }
 
   -- no room
-  pub listed-full : {out : List B} {n : ℕ} (l : List A) (a : A) → Listed k f p old out n l → p a ≡ true → length old / k ≤ n → Listed k f p old out (n + 1) (l ++ (a ∷ []))
+  pub listed-full : {out : List B} {n : ℕ} (l : List A) (a : A) → Listed k f p old out n l → p a ≡ true → length old / k ≤ n
+      → Listed k f p old out (n + 1) (l ++ (a ∷ []))
   unfolding written
   listed-full {out} {n} l a h e b =
       let c : length old / k ≤ length (keep p l) = omega (arith, h .count) in
@@ -66,7 +68,8 @@ module _ {A B : Type 0} (k : ℕ) (f : A → List B) (p : A → Bool) (old : Lis
       }
 
   -- room: the k numbers are stored one after the other
-  pub listed-put : {out : List B} {n : ℕ} (l : List A) (a : A) → ((b : A) → length (f b) ≡ k) → Listed k f p old out n l → p a ≡ true → n < length old / k
+  pub listed-put : {out : List B} {n : ℕ} (l : List A) (a : A) → ((b : A) → length (f b) ≡ k) → Listed k f p old out n l
+      → p a ≡ true → n < length old / k
       → Listed k f p old (sets out (k * n) (f a)) (n + 1) (l ++ (a ∷ []))
   unfolding written
   listed-put {out} {n} l a g h e b =
@@ -91,16 +94,22 @@ module _ {A B : Type 0} (k : ℕ) (f : A → List B) (p : A → Bool) (mid : Lis
   pub onward-none : Onward k f p mid m l₀ mid m l₀
   onward-none = record { on = λ old h. h; same = refl }
 
-  pub onward-no : {out : List B} {n : ℕ} (l : List A) (a : A) → Onward k f p mid m l₀ out n l → p a ≡ false → Onward k f p mid m l₀ out n (l ++ (a ∷ []))
+  pub onward-no : {out : List B} {n : ℕ} (l : List A) (a : A) → Onward k f p mid m l₀ out n l → p a ≡ false
+      → Onward k f p mid m l₀ out n (l ++ (a ∷ []))
   onward-no l a o e = record { on = λ old h. listed-no k f p old l a (o .on old h) e; same = o .same }
 
-  pub onward-full : {out : List B} {n : ℕ} (l : List A) (a : A) → Onward k f p mid m l₀ out n l → p a ≡ true → length mid / k ≤ n → Onward k f p mid m l₀ out (n + 1) (l ++ (a ∷ []))
+  pub onward-full : {out : List B} {n : ℕ} (l : List A) (a : A) → Onward k f p mid m l₀ out n l → p a ≡ true → length mid / k ≤ n
+      → Onward k f p mid m l₀ out (n + 1) (l ++ (a ∷ []))
   onward-full {n = n} l a o e b = record { on = λ old h. listed-full k f p old l a (o .on old h) e (rw (h .long) at b); same = o .same }
 
-  pub onward-put : {out new : List B} {n : ℕ} (l : List A) (a : A) → ((b : A) → length (f b) ≡ k) → Onward k f p mid m l₀ out n l → p a ≡ true → n < length mid / k
+  pub onward-put : {out new : List B} {n : ℕ} (l : List A) (a : A) → ((b : A) → length (f b) ≡ k) → Onward k f p mid m l₀ out n l
+      → p a ≡ true → n < length mid / k
       → new ≡ sets out (k * n) (f a) → Onward k f p mid m l₀ new (n + 1) (l ++ (a ∷ []))
   onward-put {out} {new} {n} l a g o e b q =
-      record { on = λ old h. rw q (listed-put k f p old l a g (o .on old h) e (rw (h .long) at b)); same = ap length q ∙ length-sets out (k * n) (f a) ∙ o .same }
+      record {
+        on = λ old h. rw q (listed-put k f p old l a g (o .on old h) e (rw (h .long) at b));
+        same = ap length q ∙ length-sets out (k * n) (f a) ∙ o .same;
+      }
 
 -- ---- what is written, read back: a buffer's opening entries
 take-over-le : {A : Type 0} (n : ℕ) (vs xs : List A) → n ≤ length vs → n ≤ length xs → take n (over vs xs) ≡ take n vs
@@ -134,12 +143,14 @@ module _ {A B : Type 0} (k : ℕ) (f : A → List B) (g : (a : A) → length (f 
       → take (k * min (length l) (length old / k)) (written k f l old) ≡ take (k * min (length l) (length old / k)) (written k f l new)
   shorter old new p q =
       let d : length old / k ≤ length new / k = le-div-iff-mul-le p .1 (omega (arith, div-mul-le-self (length old) k)) in
-      opening (min (length l) (length old / k)) old (omega arith) (omega arith) ∙ sym (opening (min (length l) (length old / k)) new (omega arith) (omega arith))
+      opening (min (length l) (length old / k)) old (omega arith) (omega arith)
+      ∙ sym (opening (min (length l) (length old / k)) new (omega arith) (omega arith))
 
   -- and past them its own
   pub past : (old : List B) → drop (k * min (length l) (length old / k)) (written k f l old) ≡ drop (k * min (length l) (length old / k)) old
   unfolding written
   past old =
       let n = length old / k in
-      let e : k * min (length l) n ≡ length (each f (take n l)) = sym (length-each k f g (take n l) ∙ ap (λ (i : ℕ). k * i) (length-take n l ∙ omega arith)) in
+      let e : k * min (length l) n ≡ length (each f (take n l)) =
+      sym (length-each k f g (take n l) ∙ ap (λ (i : ℕ). k * i) (length-take n l ∙ omega arith)) in
       rw e (drop-over (each f (take n l)) old)

@@ -21,7 +21,8 @@ module _ {ℓ} {A : Type ℓ} where
   front (suc k) f (x ∷ xs) = ap (λ (r : List A). f zero ∷ r) (front k (λ j. f (suc j)) xs)
 
   middle : (a k : ℕ) (f : ℕ → A) (xs : List A)
-      → take a (filled a f xs) ++ (filled k (λ j. f (a + j)) (take k (drop a (filled a f xs))) ++ drop k (drop a (filled a f xs))) ≡ filled (a + k) f xs
+      → take a (filled a f xs) ++ (filled k (λ j. f (a + j)) (take k (drop a (filled a f xs))) ++ drop k (drop a (filled a f xs)))
+      ≡ filled (a + k) f xs
   unfolding filled
   middle zero k f xs = simp zero-add (front k f xs)
   middle (suc a) k f [] = simp (take-nil, drop-nil, filled-nil)

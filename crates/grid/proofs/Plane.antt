@@ -1,7 +1,8 @@
 -- Laws of `plane w g`: a map that is given by column and row, laid out row by row, w entries a row: entry y * w + x is g x y. Assumes nothing.
 use mathlib.Core.Path.{_≡_, sym, ap, _∙_}
 use Prim.Native.Nat.{ℕ, zero, suc, _+_, _-_, _*_, _/_, _%_, _≤_, _<_}
-use native.Mathlib.Nat.{add-zero, add-mul, one-mul, suc-mul, zero-mul, mul-comm, mul-le-mul-right, mul-add-div-right, mul-add-mod-self-right, mod-eq-of-lt, div-eq-of-lt, mod-lt, div-lt-iff-lt-mul}
+use native.Mathlib.Nat.{add-zero, add-mul, one-mul, suc-mul, zero-mul, mul-comm, mul-le-mul-right, mul-add-div-right}
+use native.Mathlib.Nat.{mul-add-mod-self-right, mod-eq-of-lt, div-eq-of-lt, mod-lt, div-lt-iff-lt-mul}
 use native.Mathlib.Omega.{arith}
 use mathlib.Core.List.{List}
 use lib.ListN.{length, getD}

@@ -37,7 +37,9 @@ range-more a i h = range-split a i (i + 1) h (omega arith) ∙ ap (λ (l : List 
 
 pub range-at : (a i e : ℕ) → a ≤ i → i < e → range a e ≡ range a i ++ (i ∷ range (i + 1) e)
 range-at a i e h k =
-    range-split a i e h (omega arith) ∙ ap (λ (l : List ℕ). range a i ++ l) (range-split i (i + 1) e (omega arith) (omega arith) ∙ ap (λ (l : List ℕ). l ++ range (i + 1) e) (range-one i))
+    range-split a i e h (omega arith)
+    ∙ ap (λ (l : List ℕ). range a i ++ l)
+    (range-split i (i + 1) e (omega arith) (omega arith) ∙ ap (λ (l : List ℕ). l ++ range (i + 1) e) (range-one i))
 
 -- a number counts only where it stands in the range
 module _ {B : Type 0} where
@@ -90,7 +92,9 @@ length-line ax ex y = length-each 1 (λ x. place x y ∷ []) (λ x. refl) (from 
 
 pub length-rect : (ax ex ay ey : ℕ) → length (rect ax ex ay ey) ≡ (ex - ax) * (ey - ay)
 unfolding rect range
-length-rect ax ex ay ey = length-each (ex - ax) (λ y. line ax ex y) (λ y. length-line ax ex y) (from ay (ey - ay)) ∙ ap (λ (n : ℕ). (ex - ax) * n) (length-from ay (ey - ay))
+length-rect ax ex ay ey =
+    length-each (ex - ax) (λ y. line ax ex y) (λ y. length-line ax ex y) (from ay (ey - ay))
+    ∙ ap (λ (n : ℕ). (ex - ax) * n) (length-from ay (ey - ay))
 
 -- a bound that omega reads where m is a numeral
 pub length-before : (m ax ex ay x y : ℕ) → ex ≤ m → length (before ax ex ay x y) ≤ m * y + x
@@ -136,10 +140,12 @@ pub any-line-none : (p : Place → Bool) (ax ex y : ℕ) → ((k : ℕ) → k < 
 any-line-none p ax ex y h = rw line-made (any-made (λ k. place (ax + k) y) p (range 0 (ex - ax)) ∙ any-range-none _ 0 (ex - ax) (λ k b c. h k c))
 
 -- none of the places inside
-pub any-rect-none : (p : Place → Bool) (ax ex ay ey : ℕ) → ((x y : ℕ) → ax ≤ x → x < ex → ay ≤ y → y < ey → p (place x y) ≡ false) → any p (rect ax ex ay ey) ≡ false
+pub any-rect-none : (p : Place → Bool) (ax ex ay ey : ℕ) → ((x y : ℕ) → ax ≤ x → x < ex → ay ≤ y → y < ey → p (place x y) ≡ false)
+    → any p (rect ax ex ay ey) ≡ false
 unfolding rect
 any-rect-none p ax ex ay ey h =
-    any-each p (λ y. line ax ex y) (range ay ey) ∙ any-range-none _ ay ey (λ y b c. any-line-none p ax ex y (λ k l. h (ax + k) y (omega arith) (omega arith) b c))
+    any-each p (λ y. line ax ex y) (range ay ey)
+    ∙ any-range-none _ ay ey (λ y b c. any-line-none p ax ex y (λ k l. h (ax + k) y (omega arith) (omega arith) b c))
 
 -- only what a test says of the places inside counts
 module _ (p q : Place → Bool) where
@@ -147,7 +153,8 @@ module _ (p q : Place → Bool) where
   unfolding line keep
   keep-line-ext ax ex y h =
       each-each _ _ (range ax ex)
-      ∙ range-ext _ _ ax ex (λ x b c. each-one _ (place x y) ∙ ap (λ (t : Bool). once t (place x y)) (h x b c) ∙ sym (each-one (λ o. once (q o) o) (place x y)))
+      ∙ range-ext _ _ ax ex
+      (λ x b c. each-one _ (place x y) ∙ ap (λ (t : Bool). once t (place x y)) (h x b c) ∙ sym (each-one (λ o. once (q o) o) (place x y)))
       ∙ sym (each-each _ _ (range ax ex))
 
   pub keep-rect-ext : (ax ex ay ey : ℕ) → ((x y : ℕ) → ax ≤ x → x < ex → ay ≤ y → y < ey → p (place x y) ≡ q (place x y))
@@ -190,7 +197,11 @@ module _ (S : List Place → Type 0) (ax ex ay ey : ℕ) where
 pub down-row : (S S′ : List Place → Type 0) (ax ex ay ey : ℕ) {y : ℕ} → Down S ax ex ay ey y → y < ey
     → (S (rect ax ex ay y) → S′ (rect ax ex ay y ++ line ax ex y)) → Down S′ ax ex ay ey (y + 1)
 unfolding before
-down-row S S′ ax ex ay ey {y} r l f = record { least = omega arith; most = omega arith; holds = rw (← before-last ax ex ay y (r .least)) (f (r .holds)) }
+down-row S S′ ax ex ay ey {y} r l f = record {
+  least = omega arith;
+  most = omega arith;
+  holds = rw (← before-last ax ex ay y (r .least)) (f (r .holds));
+}
 
 -- what holds besides
 pub down-map : {S S′ : List Place → Type 0} {ax ex ay ey y : ℕ} → ((l : List Place) → S l → S′ l) → Down S ax ex ay ey y → Down S′ ax ex ay ey y
@@ -208,12 +219,15 @@ pub across-skip : (S : List Place → Type 0) (ax ex ay ey : ℕ) (d : ℕ) {y x
 across-skip S ax ex ay ey zero c l f = rw add-zero c
 across-skip S ax ex ay ey (suc d) {y} {x} c l f =
     let e : x + suc d ≡ x + d + 1 = omega arith in
-    rw e (across-more S S ax ex ay ey (across-skip S ax ex ay ey d c (omega arith) (λ k a b. f k a (omega arith))) (omega arith) (f (x + d) (omega arith) (omega arith)))
+    rw e
+    (across-more S S ax ex ay ey (across-skip S ax ex ay ey d c (omega arith) (λ k a b. f k a (omega arith))) (omega arith)
+    (f (x + d) (omega arith) (omega arith)))
 
 -- what is found at a place inside, the rectangle has
 pub any-in : (p : Place → Bool) (ax ex ay ey x y : ℕ) → ax ≤ x → x < ex → ay ≤ y → y < ey → p (place x y) ≡ true → any p (rect ax ex ay ey) ≡ true
 any-in p ax ex ay ey x y a b c d e = rw (rect-at ax ex ay ey x y a b c d) (any-yes p (before ax ex ay x y) (place x y) (after ax ex ay ey x y) e)
 
 -- what a turn finds
-pub any-at : {S : List Place → Type 0} {ax ex ay ey y x : ℕ} (p : Place → Bool) → Across S ax ex ay ey y x → x < ex → p (place x y) ≡ true → any p (rect ax ex ay ey) ≡ true
+pub any-at : {S : List Place → Type 0} {ax ex ay ey y x : ℕ} (p : Place → Bool) → Across S ax ex ay ey y x → x < ex
+    → p (place x y) ≡ true → any p (rect ax ex ay ey) ≡ true
 any-at {ax = ax} {ex = ex} {ay = ay} {ey = ey} {y = y} {x = x} p c l e = any-in p ax ex ay ey x y (c .least) l (c .low) (c .high) e

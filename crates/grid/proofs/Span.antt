@@ -55,12 +55,14 @@ module _ {ℓ} {A : Type ℓ} where
   getD-behind (suc a) n g (x ∷ xs) (suc k) d b = getD-behind a n (λ j. g (suc j)) xs k d (omega arith)
 
   -- after the first a entries the next n
-  pub span-filled : (a n : ℕ) (f g : ℕ → A) (xs : List A) → ((k : ℕ) → a ≤ k → k < a + n → g k ≡ f k) → span a n g (filled a f xs) ≡ filled (a + n) f xs
+  pub span-filled : (a n : ℕ) (f g : ℕ → A) (xs : List A) → ((k : ℕ) → a ≤ k → k < a + n → g k ≡ f k)
+      → span a n g (filled a f xs) ≡ filled (a + n) f xs
   unfolding span filled
   span-filled zero n f g xs e = rw zero-add (filled-ext n g f xs (λ k b. e k (omega arith) (omega arith)))
   span-filled (suc a) n f g [] e = sym (filled-nil (suc a + n) f)
   span-filled (suc a) n f g (x ∷ xs) e =
-      simp suc-add (ap (λ (r : List A). f zero ∷ r) (span-filled a n (λ k. f (suc k)) (λ k. g (suc k)) xs (λ k l b. e (suc k) (suc-le-suc l) (omega arith))))
+      simp suc-add (ap (λ (r : List A). f zero ∷ r)
+      (span-filled a n (λ k. f (suc k)) (λ k. g (suc k)) xs (λ k l b. e (suc k) (suc-le-suc l) (omega arith))))
 
   -- ---- the entries from a and below i are done
   abbrev pub Spanning : ℕ → ℕ → (ℕ → A) → List A → List A → ℕ → Type ℓ
@@ -91,14 +93,16 @@ module _ {ℓ} {A : Type ℓ} (a e : ℕ) (g : ℕ → A) (xs : List A) where
   spanning-before {ys} {i} r k d b = rw (r .fill) (getD-before a (i - a) g xs k d b)
 
 -- a run within row y, from column lo to before column hi
-pub row-span {ℓ} : {A : Type ℓ} (w h : ℕ) (f : ℕ → ℕ → A) (g : ℕ → A) (xs : List A) {ys zs : List A} {y lo hi a e : ℕ} → Row w h f xs ys y lo → lo ≤ hi → hi ≤ w
+pub row-span {ℓ} : {A : Type ℓ} (w h : ℕ) (f : ℕ → ℕ → A) (g : ℕ → A) (xs : List A) {ys zs : List A} {y lo hi a e : ℕ}
+    → Row w h f xs ys y lo → lo ≤ hi → hi ≤ w
     → a ≡ y * w + lo → e ≡ y * w + hi → zs ≡ span a (e - a) g ys → ((x : ℕ) → lo ≤ x → x < hi → g (y * w + x) ≡ f x y) → Row w h f xs zs y hi
 row-span {A = A} w h f g xs {ys} {zs} {y} {lo} {hi} {a} {e} r l m p q z v = record {
   room = r .room;
   steps = record {
     least = omega arith;
     most = m;
-    fill = z ∙ (λ i. span (p i) (size i) g (r .steps .fill i)) ∙ span-filled (y * w + lo) (hi - lo) (plane w f) g xs at ∙ ap (λ (n : ℕ). filled n (plane w f) xs) up;
+    fill = z ∙ (λ i. span (p i) (size i) g (r .steps .fill i)) ∙ span-filled (y * w + lo) (hi - lo) (plane w f) g xs at
+        ∙ ap (λ (n : ℕ). filled n (plane w f) xs) up;
     long = ap length z ∙ length-span a (e - a) g ys ∙ r .steps .long;
   };
 }

@@ -51,7 +51,8 @@ module _ {ℓ} {A : Type ℓ} (d : A) (a e : ℕ) (g : ℕ → A → A) (xs : Li
   span-more {ys} {i} {v} r b q = record {
     least = omega arith;
     most = omega arith;
-    fill = fill-step _ xs i (r .fill) (q ∙ ap (g i) (ap (λ (l : List A). getD l i d) (r .fill) ∙ getD-beyond i _ xs i d (omega arith)) ∙ sym (inside i (r .least) b));
+    fill = fill-step _ xs i (r .fill)
+        (q ∙ ap (g i) (ap (λ (l : List A). getD l i d) (r .fill) ∙ getD-beyond i _ xs i d (omega arith)) ∙ sym (inside i (r .least) b));
     long = length-set ys i v ∙ r .long;
   }
 
@@ -74,9 +75,15 @@ module _ {ℓ} {A : Type ℓ} (d : A) (a e : ℕ) (g : ℕ → A → A) (xs : Li
 
   -- over what an earlier pass filled with f: h is what the two come to
   pub touched-on : (n : ℕ) (f h : ℕ → A) (old : List A) {ys : List A} → xs ≡ filled n f old → ys ≡ touched d a e g xs → length old ≡ n
-      → ((j : ℕ) → j < n → a ≤ j → j < e → g j (f j) ≡ h j) → ((j : ℕ) → j < n → j < a → f j ≡ h j) → ((j : ℕ) → j < n → e ≤ j → f j ≡ h j) → ys ≡ filled n h old
+      → ((j : ℕ) → j < n → a ≤ j → j < e → g j (f j) ≡ h j) → ((j : ℕ) → j < n → j < a → f j ≡ h j)
+      → ((j : ℕ) → j < n → e ≤ j → f j ≡ h j) → ys ≡ filled n h old
   unfolding touched
-  touched-on n f h old {ys} p q l u v w = q ∙ ap (λ (m : ℕ). filled m (changed d a e g xs) xs) (ap length p ∙ length-filled n f old ∙ l) ∙ filled-ext n _ h xs (λ j b. at j b (decLt j a) (decLt j e)) ∙ ap (filled n h) p ∙ filled-filled n n f h old (omega arith)
+  touched-on n f h old {ys} p q l u v w =
+      q
+      ∙ ap (λ (m : ℕ). filled m (changed d a e g xs) xs) (ap length p ∙ length-filled n f old ∙ l)
+      ∙ filled-ext n _ h xs (λ j b. at j b (decLt j a) (decLt j e))
+      ∙ ap (filled n h) p
+      ∙ filled-filled n n f h old (omega arith)
     where
       was : (j : ℕ) → j < n → getD xs j d ≡ f j
       was j b = ap (λ (k : List A). getD k j d) p ∙ getD-filled n f old j d b (omega arith)
@@ -87,10 +94,13 @@ module _ {ℓ} {A : Type ℓ} (d : A) (a e : ℕ) (g : ℕ → A → A) (xs : Li
       at j b (no m) (no k) = past j (omega arith) ∙ was j b ∙ w j b (omega arith)
 
 -- one pass over two parts, the second after the first: k does there what g does
-module _ {ℓ} {A : Type ℓ} (d : A) (a e o : ℕ) (g k : ℕ → A → A) (xs : List A) (m : a ≤ e) (l : e ≤ o) (u : (j : ℕ) (v : A) → e ≤ j → j < o → k j v ≡ g j v) where
+module _ {ℓ} {A : Type ℓ} (d : A) (a e o : ℕ) (g k : ℕ → A → A) (xs : List A) (m : a ≤ e) (l : e ≤ o)
+    (u : (j : ℕ) (v : A) → e ≤ j → j < o → k j v ≡ g j v) where
   pub touched-join : {ys zs : List A} → ys ≡ touched d a e g xs → zs ≡ touched d e o k ys → zs ≡ touched d a o g xs
   unfolding touched
-  touched-join {ys} {zs} p q = touched-on d e o k ys (length xs) _ _ xs p q refl next (λ j _ b. first j b (decLt j a)) (λ j _ b. past d a e g xs j (omega arith) ∙ sym (past d a o g xs j b))
+  touched-join {ys} {zs} p q =
+      touched-on d e o k ys (length xs) _ _ xs p q refl next (λ j _ b. first j b (decLt j a))
+      (λ j _ b. past d a e g xs j (omega arith) ∙ sym (past d a o g xs j b))
     where
       next : (j : ℕ) → j < length xs → e ≤ j → j < o → k j (changed d a e g xs j) ≡ changed d a o g xs j
       next j _ b c = rw (past d a e g xs j b, inside d a o g xs j (omega arith) c) (u j _ b c)
@@ -108,12 +118,14 @@ module _ {ℓ} {A : Type ℓ} where
     pub long : length out ≡ length old
 
 -- every entry is set, whatever was there
-pub set-all {ℓ} : {A : Type ℓ} (d : A) (f : ℕ → A) (xs : List A) {ys : List A} → ys ≡ touched d 0 (length xs) (λ j _. f j) xs → ys ≡ filled (length xs) f xs
+pub set-all {ℓ} : {A : Type ℓ} (d : A) (f : ℕ → A) (xs : List A) {ys : List A}
+    → ys ≡ touched d 0 (length xs) (λ j _. f j) xs → ys ≡ filled (length xs) f xs
 unfolding touched
 set-all d f xs p = p ∙ filled-ext (length xs) _ f xs (λ j b. inside d 0 (length xs) (λ j _. f j) xs j (omega arith) b)
 
 module _ {ℓ} {A : Type ℓ} (d : A) (n : ℕ) (S : ℕ → ℕ → A) where
-  pub stage-none : (f : ℕ → A) (k : ℕ) (xs : List A) {ys : List A} → length xs ≡ n → ys ≡ touched d 0 (length xs) (λ j _. f j) xs → ((j : ℕ) → f j ≡ S k j) → Stage n S ys ys k
+  pub stage-none : (f : ℕ → A) (k : ℕ) (xs : List A) {ys : List A} → length xs ≡ n → ys ≡ touched d 0 (length xs) (λ j _. f j) xs
+      → ((j : ℕ) → f j ≡ S k j) → Stage n S ys ys k
   stage-none f k xs {ys} l p u = record {
     size = length-fill _ _ xs (set-all d f xs p) ∙ l;
     fill = fill-again n (S k) xs (rw (← l) (set-all d f xs p ∙ filled-ext (length xs) f (S k) xs (λ j _. u j)));
@@ -122,7 +134,8 @@ module _ {ℓ} {A : Type ℓ} (d : A) (n : ℕ) (S : ℕ → ℕ → A) where
 
   -- some turns more, in one pass
   pub stage-more : (a e : ℕ) (g : ℕ → A → A) (k l : ℕ) {xs ys zs : List A} → Stage n S xs ys k → zs ≡ touched d a e g ys
-      → ((j : ℕ) → j < n → a ≤ j → j < e → g j (S k j) ≡ S l j) → ((j : ℕ) → j < n → j < a → S k j ≡ S l j) → ((j : ℕ) → j < n → e ≤ j → S k j ≡ S l j)
+      → ((j : ℕ) → j < n → a ≤ j → j < e → g j (S k j) ≡ S l j) → ((j : ℕ) → j < n → j < a → S k j ≡ S l j)
+      → ((j : ℕ) → j < n → e ≤ j → S k j ≡ S l j)
       → Stage n S xs zs l
   stage-more a e g k l {xs} {ys} {zs} r q u v w =
       let f : zs ≡ filled n (S l) xs = touched-on d a e g ys n (S k) (S l) xs (r .fill) q (r .size) u v w in
@@ -134,9 +147,14 @@ module _ {ℓ} {A : Type ℓ} (d : A) (n : ℕ) (S : ℕ → ℕ → A) where
 
   pub stage-join : {xs ys zs : List A} {k l : ℕ} → Stage n S xs ys k → Stage n S ys zs l → Stage n S xs zs l
   stage-join {xs} {ys} {zs} {k} {l} r q =
-      record { size = r .size; fill = q .fill ∙ ap (filled n (S l)) (r .fill) ∙ filled-filled n n (S k) (S l) xs (omega arith); long = q .long ∙ r .long }
+      record {
+        size = r .size;
+        fill = q .fill ∙ ap (filled n (S l)) (r .fill) ∙ filled-filled n n (S k) (S l) xs (omega arith);
+        long = q .long ∙ r .long;
+      }
 
   -- from the buffer as it was before its entries were set
-  pub stage-all : (f : ℕ → A) (k : ℕ) (xs : List A) {ys zs : List A} → length xs ≡ n → ys ≡ touched d 0 (length xs) (λ j _. f j) xs → Stage n S ys zs k → zs ≡ filled n (S k) xs
+  pub stage-all : (f : ℕ → A) (k : ℕ) (xs : List A) {ys zs : List A} → length xs ≡ n
+      → ys ≡ touched d 0 (length xs) (λ j _. f j) xs → Stage n S ys zs k → zs ≡ filled n (S k) xs
   stage-all f k xs {ys} {zs} l p r =
       r .fill ∙ ap (filled n (S k)) (rw l at (set-all d f xs p)) ∙ filled-filled n n f (S k) xs (omega arith)

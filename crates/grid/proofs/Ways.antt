@@ -10,7 +10,8 @@ use Rattle.grid.specs.Plane.{plane}
 use Rattle.grid.proofs.Plane.{getD-plane, pixel-in}
 use Rattle.grid.specs.Fold.{sumTo}
 use Rattle.grid.proofs.Fold.{sum-one, sum-split, sum-back, sum-most, sum-raised, fold-none, fold-ext}
-use Rattle.grid.specs.Ways.{Way, backx, backy, count, lastSum, upTo, runSum, rayx, rayy, ray, Inside, Reach, Holds, Entry, Deep, along, down, fall, rise}
+use Rattle.grid.specs.Ways.{Way, backx, backy, count, lastSum, upTo, runSum, rayx, rayy, ray}
+use Rattle.grid.specs.Ways.{Inside, Reach, Holds, Entry, Deep, along, down, fall, rise}
 
 -- ---- what is meant
 
@@ -25,7 +26,8 @@ unfolding ray
 ray-raised d f b r x y = sum-raised _ b (2 * r + 1)
 
 -- only the pixels inside count
-pub ray-ext : (d : Way) (f g : ℕ → ℕ → ℕ) (w h r x y : ℕ) → Inside w h r x y → ((x y : ℕ) → x < w → y < h → f x y ≡ g x y) → ray d f r x y ≡ ray d g r x y
+pub ray-ext : (d : Way) (f g : ℕ → ℕ → ℕ) (w h r x y : ℕ) → Inside w h r x y → ((x y : ℕ) → x < w → y < h → f x y ≡ g x y)
+    → ray d f r x y ≡ ray d g r x y
 unfolding ray
 ray-ext d f g w h r x y m e = fold-ext _+_ 0 _ _ (2 * r + 1) (λ j b. e (rayx d x r j) (rayy d y r j) (at d j b .0) (at d j b .1))
   where
@@ -64,7 +66,8 @@ count-back fall w x y m b = omega arith
 count-back rise w x y m b = omega arith
 
 -- a running sum is the last m pixels and the running sum m steps back
-pub upTo-back : (d : Way) (f : ℕ → ℕ → ℕ) (w x y m : ℕ) → 0 < x → m ≤ count d w x y → upTo d f w x y ≡ lastSum d f m (x - 1) (y - 1) + upTo d f w (backx d x m) (backy d y m)
+pub upTo-back : (d : Way) (f : ℕ → ℕ → ℕ) (w x y m : ℕ) → 0 < x → m ≤ count d w x y
+    → upTo d f w x y ≡ lastSum d f m (x - 1) (y - 1) + upTo d f w (backx d x m) (backy d y m)
 unfolding lastSum
 upTo-back d f w x y m p b =
     let n = count d w (backx d x m) (backy d y m) in
@@ -95,7 +98,8 @@ run-step d f w x y b =
     ∙ ap (λ (n : ℕ). n + upTo d f w (backx d (x + 1) 1) (backy d (y + 1) 1)) (sum-one _ ∙ (λ i. f (at d .1 i) (at d .2 i)))
     ∙ (λ i. f x y + upTo d f w (at d .3 i) (at d .4 i))
   where
-    at : (d : Way) → (1 ≤ count d w (x + 1) (y + 1)) × (backx d (x + 1 - 1) 0 ≡ x) × (backy d (y + 1 - 1) 0 ≡ y) × (backx d (x + 1) 1 ≡ prevx d x) × (backy d (y + 1) 1 ≡ prevy d y)
+    at : (d : Way) → (1 ≤ count d w (x + 1) (y + 1)) × (backx d (x + 1 - 1) 0 ≡ x) × (backy d (y + 1 - 1) 0 ≡ y)
+        × (backx d (x + 1) 1 ≡ prevx d x) × (backy d (y + 1) 1 ≡ prevy d y)
     at along = omega arith
     at down = omega arith
     at fall = omega arith
@@ -115,7 +119,8 @@ none-past d f w x y r e = rw (none d r e) (sym (last-none d f (x - 1) (y - 1)))
 pub run-on : (d : Way) (f : ℕ → ℕ → ℕ) (w x y : ℕ) {a : ℕ} → x < w → a ≡ upTo d f w (prevx d x) (prevy d y) → f x y + a ≡ runSum d f w x y
 run-on d f w x y b e = omega (arith, run-step d f w x y b)
 
-pub run-first : (d : Way) (f : ℕ → ℕ → ℕ) (w x y : ℕ) → x < w → Reach d w (prevx d x) (prevy d y) → min (min (prevx d x) (prevy d y)) (w + 1 - prevx d x) ≡ 0 → f x y ≡ runSum d f w x y
+pub run-first : (d : Way) (f : ℕ → ℕ → ℕ) (w x y : ℕ) → x < w → Reach d w (prevx d x) (prevy d y)
+    → min (min (prevx d x) (prevy d y)) (w + 1 - prevx d x) ≡ 0 → f x y ≡ runSum d f w x y
 run-first d f w x y b r e = omega (arith, run-step d f w x y b, none-past d f w (prevx d x) (prevy d y) r e)
 
 -- a running sum at (a, b), by a column and a row counted from 1
@@ -136,7 +141,8 @@ run-most d f top side w x y h a b = le-trans (last-most d f top (count d w x y) 
     most n l = mul-le-mul-left top l
 
 -- only the pixels inside count
-pub run-ext : (d : Way) (f g : ℕ → ℕ → ℕ) (w h x y : ℕ) → x < w → y < h → ((x y : ℕ) → x < w → y < h → f x y ≡ g x y) → runSum d f w x y ≡ runSum d g w x y
+pub run-ext : (d : Way) (f g : ℕ → ℕ → ℕ) (w h x y : ℕ) → x < w → y < h → ((x y : ℕ) → x < w → y < h → f x y ≡ g x y)
+    → runSum d f w x y ≡ runSum d g w x y
 unfolding lastSum
 run-ext d f g w h x y a b e =
     fold-ext _+_ 0 _ _ (count d w (x + 1) (y + 1)) (λ k l. e (backx d (x + 1 - 1) k) (backy d (y + 1 - 1) k) (at d k l .0) (at d k l .1))
@@ -149,11 +155,13 @@ run-ext d f g w h x y a b e =
 
 -- ---- a table that holds the running sums of an image, whatever filled it
 
-pub holds : (d : Way) (f : ℕ → ℕ → ℕ) (w h : ℕ) (old : List ℕ) {t : List ℕ} → w * h ≤ length old → t ≡ filled (w * h) (plane w (runSum d f w)) old → Holds d f w h t
+pub holds : (d : Way) (f : ℕ → ℕ → ℕ) (w h : ℕ) (old : List ℕ) {t : List ℕ} → w * h ≤ length old
+    → t ≡ filled (w * h) (plane w (runSum d f w)) old → Holds d f w h t
 holds d f w h old l e = record { at = λ x y a b. rw e (getD-plane a (w * h) (runSum d f w) old y 0 (pixel-in a b) l) }
 
 -- an entry, by a column and a row counted from 1
-pub holds-at : {d : Way} {f : ℕ → ℕ → ℕ} {w h : ℕ} {t : List ℕ} → Holds d f w h t → (x y : ℕ) {i : ℕ} → 0 < x → x ≤ w → 0 < y → y ≤ h → i ≡ (y - 1) * w + (x - 1)
+pub holds-at : {d : Way} {f : ℕ → ℕ → ℕ} {w h : ℕ} {t : List ℕ} → Holds d f w h t → (x y : ℕ) {i : ℕ} → 0 < x → x ≤ w → 0 < y
+    → y ≤ h → i ≡ (y - 1) * w + (x - 1)
     → getD t i 0 ≡ upTo d f w x y
 holds-at {d} {f} {w} s x y a b u v e =
     let p : x - 1 + 1 ≡ x = omega arith in
@@ -194,7 +202,8 @@ module _ (d : Way) (f : ℕ → ℕ → ℕ) (w h r x y : ℕ) (m : Inside w h r
   unfolding lastSum ray
   ray-last = go d
     where
-      go : (d : Way) → sumTo (λ k. f (backx d (endx d x r) k) (backy d (endy d y r) k)) (2 * r + 1) ≡ sumTo (λ j. f (rayx d x r j) (rayy d y r j)) (2 * r + 1)
+      go : (d : Way)
+          → sumTo (λ k. f (backx d (endx d x r) k) (backy d (endy d y r) k)) (2 * r + 1) ≡ sumTo (λ j. f (rayx d x r j) (rayy d y r j)) (2 * r + 1)
       go along = sum-back _ (2 * r + 1) ∙ fold-ext _+_ 0 _ _ (2 * r + 1) (λ j b. ap (λ (u : ℕ). f u y) (omega arith))
       go down = sum-back _ (2 * r + 1) ∙ fold-ext _+_ 0 _ _ (2 * r + 1) (λ j b. ap (λ (u : ℕ). f x u) (omega arith))
       go fall =
@@ -213,7 +222,8 @@ module _ (d : Way) (f : ℕ → ℕ → ℕ) (w h r x y : ℕ) (m : Inside w h r
       ∙ (λ i. lastSum d f (2 * r + 1) (p i) (q i) + upTo d f w (at d .1 i) (at d .2 i))
       ∙ ap (λ (n : ℕ). n + upTo d f w (lowx d x r) (lowy d y r)) ray-last
     where
-      at : (d : Way) → (2 * r + 1 ≤ count d w (endx d x r + 1) (endy d y r + 1)) × (backx d (endx d x r + 1) (2 * r + 1) ≡ lowx d x r) × (backy d (endy d y r + 1) (2 * r + 1) ≡ lowy d y r)
+      at : (d : Way) → (2 * r + 1 ≤ count d w (endx d x r + 1) (endy d y r + 1))
+          × (backx d (endx d x r + 1) (2 * r + 1) ≡ lowx d x r) × (backy d (endy d y r + 1) (2 * r + 1) ≡ lowy d y r)
       at along = omega arith
       at down = omega arith
       at fall = omega arith
@@ -259,7 +269,8 @@ pub deep-inside : {w h r x y : ℕ} → Deep w h r x y → Inside w h r x y
 deep-inside m = record { left = omega arith; right = omega arith; above = omega arith; below = omega arith }
 
 -- i and j are where code reads
-pub ray-deep : (d : Way) {f : ℕ → ℕ → ℕ} {w h r x y i j : ℕ} {t : List ℕ} → Holds d f w h t → Deep w h r x y → i ≡ endy d y r * w + endx d x r → j ≡ prey d y r * w + prex d x r
+pub ray-deep : (d : Way) {f : ℕ → ℕ → ℕ} {w h r x y i j : ℕ} {t : List ℕ} → Holds d f w h t → Deep w h r x y
+    → i ≡ endy d y r * w + endx d x r → j ≡ prey d y r * w + prex d x r
     → (getD t j 0 ≤ getD t i 0) × (getD t i 0 - getD t j 0 ≡ ray d f r x y)
 ray-deep d {f} {w} {h} {r} {x} {y} {i} {j} {t} s m p q =
     let u : getD t i 0 ≡ runSum d f w (endx d x r) (endy d y r) = rw p (s .at (endx d x r) (endy d y r) (at d .0) (at d .1)) in
@@ -268,7 +279,8 @@ ray-deep d {f} {w} {h} {r} {x} {y} {i} {j} {t} s m p q =
     let l : upTo d f w (lowx d x r) (lowy d y r) ≡ runSum d f w (prex d x r) (prey d y r) = λ k. upTo d f w (at d .4 k) (at d .5 k) in
     (omega arith, omega arith)
   where
-    at : (d : Way) → (endx d x r < w) × (endy d y r < h) × (prex d x r < w) × (prey d y r < h) × (lowx d x r ≡ prex d x r + 1) × (lowy d y r ≡ prey d y r + 1)
+    at : (d : Way)
+        → (endx d x r < w) × (endy d y r < h) × (prex d x r < w) × (prey d y r < h) × (lowx d x r ≡ prex d x r + 1) × (lowy d y r ≡ prey d y r + 1)
     at along = omega arith
     at down = omega arith
     at fall = omega arith

@@ -1,5 +1,6 @@
 -- A list of whole entries in a buffer that may be too short: `written k f l old` has the k numbers of each entry of l, as far as whole entries fit.
--- `Listed` is the invariant of a loop that stores what p keeps; an inner loop, which knows the buffer only from where that loop began, keeps `Onward`.
+-- `Listed` is the invariant of a loop that stores what p keeps; an inner loop, which knows the buffer only from where
+-- that loop began, keeps `Onward`.
 -- k is a parameter throughout. Assumes nothing.
 use mathlib.Core.Path.{_≡_}
 use mathlib.Core.Bool.{Bool}

@@ -1,5 +1,6 @@
 -- Places in row order: `rect ax ex ay ey` lists each (x, y) with ax ≤ x < ex and ay ≤ y < ey, a row at a time.
--- `for y in ay..ey { for x in ax..ex { .. } }` has passed `rect ax ex ay y` at the head of the outer loop and `before ax ex ay x y` at that of the inner:
+-- `for y in ay..ey { for x in ax..ex { .. } }` has passed `rect ax ex ay y` at the head of the outer loop and `before
+-- ax ex ay x y` at that of the inner:
 -- `Down` and `Across` are their invariants over any state. Assumes nothing.
 use Prim.Native.Nat.{ℕ, zero, suc, _+_, _-_}
 use mathlib.Core.List.{List, [], _∷_}

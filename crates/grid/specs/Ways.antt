@@ -1,5 +1,6 @@
 -- The four ways through an image, the running sums along each, and the sum over a ray: a running sum less another.
--- An image is a function f: f x y is the pixel in column x of row y. A way is a parameter of one law, `upTo-back`, and of one for rays. Assumes nothing.
+-- An image is a function f: f x y is the pixel in column x of row y. A way is a parameter of one law, `upTo-back`, and
+-- of one for rays. Assumes nothing.
 use mathlib.Core.Path.{_≡_}
 use Prim.Native.Nat.{ℕ, _+_, _-_, _*_, _≤_, _<_, min}
 use mathlib.Core.List.{List}

@@ -90,45 +90,34 @@ pub fn judge_room(pixels: usize, room: usize) -> Answer
     Answer::Complete
 }
 
-// The stages joined, in the table's order; `list` is what is said of the list's settings.
+// The stages joined, in the table's order; `list` is what is said of the list's settings. Here and below `n` is the
+// image's length, and `cap` that of the shortest lent buffer.
 fn judge_stages(
-    width: usize,
-    height: usize,
-    image: usize,
+    w: usize,
+    h: usize,
+    n: usize,
     p: RadonDetectorParams,
     list: Answer,
-    room: usize,
+    cap: usize,
 ) -> Answer
-    ensures { λ r. ⌜ r ≡ stagesOf width height image p list room ⌝ }
+    ensures { λ r. ⌜ r ≡ stagesOf w h n p list cap ⌝ }
 {
-    let size = judge_size(width, height, image, p.image_upsample);
+    let size = judge_size(w, h, n, p.image_upsample);
     let map = judge_map_settings(p);
-    let lent = judge_room(pixels(width, height, p.image_upsample), room);
+    let lent = judge_room(pixels(w, h, p.image_upsample), cap);
     size.or_else(map.or_else(list.or_else(lent)))
 }
 
 // A call of the map: 2, 3, 4, 5, 6 and 9, the lowest that applies. What only the list goes by is not looked at.
-pub fn judge_map_call(
-    width: usize,
-    height: usize,
-    image: usize,
-    p: RadonDetectorParams,
-    room: usize,
-) -> Answer
-    ensures { λ r. ⌜ r ≡ mapRefusalOf width height image p room ⌝ }
+pub fn judge_map_call(w: usize, h: usize, n: usize, p: RadonDetectorParams, cap: usize) -> Answer
+    ensures { λ r. ⌜ r ≡ mapRefusalOf w h n p cap ⌝ }
 {
-    judge_stages(width, height, image, p, Answer::Complete, room)
+    judge_stages(w, h, n, p, Answer::Complete, cap)
 }
 
 // A call of the finder: 2 to 9, the lowest that applies.
-pub fn judge_finder_call(
-    width: usize,
-    height: usize,
-    image: usize,
-    p: RadonDetectorParams,
-    room: usize,
-) -> Answer
-    ensures { λ r. ⌜ r ≡ refusalOf width height image p room ⌝ }
+pub fn judge_finder_call(w: usize, h: usize, n: usize, p: RadonDetectorParams, cap: usize) -> Answer
+    ensures { λ r. ⌜ r ≡ refusalOf w h n p cap ⌝ }
 {
-    judge_stages(width, height, image, p, judge_list_settings(p), room)
+    judge_stages(w, h, n, p, judge_list_settings(p), cap)
 }

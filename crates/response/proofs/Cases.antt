@@ -14,7 +14,8 @@ use Rattle.params.specs.Refusals.{mapRefusalOf}
 use Rattle.response.specs.declared.Mapped.{Mapped}
 use Rattle.response.specs.Map.{Buffers, roomOf, mappedBy, mapped, mappedOf, mapBuffersOf, answered}
 
-module _ (img : List ℕ) (w h : ℕ) (p : RadonDetectorParams) (b : Buffers) {room : ℕ} (r : room ≡ roomOf b) {a : Answer} (e : a ≡ mapRefusalOf w h (length img) p room) {n : ℕ} (k : n ≡ numberOf a) where
+module _ (img : List ℕ) (w h : ℕ) (p : RadonDetectorParams) (b : Buffers) {room : ℕ} (r : room ≡ roomOf b) {a : Answer}
+    (e : a ≡ mapRefusalOf w h (length img) p room) {n : ℕ} (k : n ≡ numberOf a) where
   is-answered : a ≡ answered img w h p b
   is-answered = e ∙ ap (mapRefusalOf w h (length img) p) r
 
@@ -27,7 +28,8 @@ module _ (img : List ℕ) (w h : ℕ) (p : RadonDetectorParams) (b : Buffers) {r
       let q = ne-eqb (numberOf a) 0 (λ y. z (k ∙ y)) in
       (rw (← is-answered, q), rw (← is-answered, q))
 
-  pub when-accepted : n ≡ 0 → {factor ray blur : ℕ} → factor ≡ factorOf (p .«image_upsample») → ray ≡ rayOf (p .«ray_radius») → blur ≡ p .«response_blur_radius»
+  pub when-accepted : n ≡ 0 → {factor ray blur : ℕ} → factor ≡ factorOf (p .«image_upsample») → ray ≡ rayOf (p .«ray_radius»)
+      → blur ≡ p .«response_blur_radius»
       → {after : Buffers} → after ≡ mappedBy factor ray blur (pixel img w) w h b
       → (_≡_ {A = Mapped} (record { answer = Complete; w = factor * w; h = factor * h }) (mappedOf img w h p b)) × (after ≡ mapBuffersOf img w h p b)
   unfolding mappedOf mapBuffersOf

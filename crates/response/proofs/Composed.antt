@@ -30,7 +30,8 @@ use Rattle.response.specs.Map.{Buffers, mapLent, rawAt, mapAt, mappedBy}
 use Rattle.response.proofs.Runs.{Runs, side-most}
 
 -- only the pixels inside count
-table-same : (d : Way) (f g : ℕ → ℕ → ℕ) (w h : ℕ) (old : List ℕ) → ((x y : ℕ) → x < w → y < h → f x y ≡ g x y) → tableOf d f w h old ≡ tableOf d g w h old
+table-same : (d : Way) (f g : ℕ → ℕ → ℕ) (w h : ℕ) (old : List ℕ) → ((x y : ℕ) → x < w → y < h → f x y ≡ g x y)
+    → tableOf d f w h old ≡ tableOf d g w h old
 table-same d f g w h old e =
     table-filled f w d h old ∙ plane-ext w h _ _ old (λ x y u v. run-ext d f g w h x y u v e) ∙ sym (table-filled g w d h old)
 
@@ -110,7 +111,8 @@ module _ {factor ray blur w h image : ℕ} {b : Buffers} (runs : Runs factor ray
       → working ≡ cond (upFits factor w h (length img) (length (b .working)))
       (filled (factor * w * (factor * h)) (plane (factor * w) (workAt factor (pixel img w) w h)) (b .working))
       (b .working)
-      → tabled row col falling rising first ≡ cond (raysFit (factor * w) (factor * h) ray (length working) (tabled (b .row) (b .col) (b .falling) (b .rising) (b .response)))
+      → tabled row col falling rising first ≡ cond
+      (raysFit (factor * w) (factor * h) ray (length working) (tabled (b .row) (b .col) (b .falling) (b .rising) (b .response)))
       (raysOf (pixel working (factor * w)) (factor * w) (factor * h) ray (tabled (b .row) (b .col) (b .falling) (b .rising) (b .response)))
       (tabled (b .row) (b .col) (b .falling) (b .rising) (b .response))
       → last ≡ cond (blurFits (factor * w) (factor * h) blur (length first) (length (b .scratch)))
@@ -122,7 +124,13 @@ module _ {factor ray blur w h image : ℕ} {b : Buffers} (runs : Runs factor ray
       → mapLent working row col falling rising last scratch ≡ mappedBy factor ray blur (pixel img w) w h b
   unfolding raysOf
   composed {working} {row} {col} {falling} {rising} {first} e t m s =
-      let image : FittingImage factor w h (length img) = record { one = runs .some; two = runs .two; wide = runs .wide; high = runs .high; inside = le-of-eq (sym (runs .whole) ∙ sym whole) } in
+      let image : FittingImage factor w h (length img) = record {
+        one = runs .some;
+        two = runs .two;
+        wide = runs .wide;
+        high = runs .high;
+        inside = le-of-eq (sym (runs .whole) ∙ sym whole);
+      } in
       let up = up-plain (b .working) (record { image = image; within = runs .working-room }) e in
       let long : length working ≡ length (b .working) = length-fill _ _ (b .working) up in
       let lent = tabled (b .row) (b .col) (b .falling) (b .rising) (b .response) in
@@ -139,5 +147,13 @@ module _ {factor ray blur w h image : ℕ} {b : Buffers} (runs : Runs factor ray
       } in
       let rays = rays-plain _ _ _ _ _ (pixel working (factor * w)) fit t in
       let room : length first ≡ length (b .response) = length-fill _ _ (b .response) (λ i. rays i .response) in
-      let maps : FittingMaps (factor * w) (factor * h) blur (length first) (length (b .scratch)) = record { few = runs .blur-most; wide = wide; high = high; source = omega (arith, runs .response-room, room); target = runs .scratch-room } in
-      left factor ray blur (pixel img w) w h b (runs .working-room) (runs .response-room) up rays (blur-plain first maps m) (blur-plain (b .scratch) maps s)
+      let maps : FittingMaps (factor * w) (factor * h) blur (length first) (length (b .scratch)) = record {
+        few = runs .blur-most;
+        wide = wide;
+        high = high;
+        source = omega (arith, runs .response-room, room);
+        target = runs .scratch-room;
+      } in
+      left factor ray blur (pixel img w) w h b (runs .working-room) (runs .response-room) up rays
+      (blur-plain first maps m)
+      (blur-plain (b .scratch) maps s)

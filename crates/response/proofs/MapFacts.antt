@@ -37,7 +37,9 @@ module _ (factor ray blur : ℕ) (two : factor ≤ 2) (f g : ℕ → ℕ → ℕ
 
   pub raised-frame : (x y : ℕ) → x < factor * w → y < factor * h → mapAt factor ray blur g w h x y ≡ mapAt factor ray blur f w h x y
   unfolding mapAt
-  raised-frame x y a b = blurAt-ext (rawAt factor ray g w h) (rawAt factor ray f w h) (factor * w) (factor * h) blur x y a b (λ i j c d. raw-raised i j)
+  raised-frame x y a b =
+      blurAt-ext (rawAt factor ray g w h) (rawAt factor ray f w h) (factor * w) (factor * h) blur x y a b
+      (λ i j c d. raw-raised i j)
 
 -- ---- eight bits: a map value is 0, or from 2^-6 to 2^24
 
@@ -61,9 +63,11 @@ module _ (factor ray blur : ℕ) (f : ℕ → ℕ → ℕ) (w h : ℕ) (most : (
   unfolding mapAt
   map-number = blur-number 20 (lit≤ tt) (rawAt factor ray f w h) (factor * w) (factor * h) blur x y b u v (λ i j c d. raw-level i j)
 
--- ---- "Two calls alike in image, settings and buffer lengths, over buffers with different old contents, give the same answer and the same written parts"
+-- ---- "Two calls alike in image, settings and buffer lengths, over buffers with different old contents, give the same
+-- answer and the same written parts"
 
-pub same-answer : (img : List ℕ) (w h : ℕ) (p : RadonDetectorParams) (b c : Buffers) → roomOf b ≡ roomOf c → mappedOf img w h p b ≡ mappedOf img w h p c
+pub same-answer : (img : List ℕ) (w h : ℕ) (p : RadonDetectorParams) (b c : Buffers) → roomOf b ≡ roomOf c
+    → mappedOf img w h p b ≡ mappedOf img w h p c
 unfolding mappedOf
 same-answer img w h p b c e = rw e
 

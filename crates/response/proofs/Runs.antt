@@ -70,8 +70,9 @@ module _ (w h : ℕ) (p : RadonDetectorParams) (image : ℕ) (b : Buffers) where
       }
 
 -- the least of seven lengths, as the code finds it
-pub least-of-seven : (i row col fall rise resp s : ℕ) {one two tables floats rest room : ℕ} → one ≡ min row col → two ≡ min fall rise → tables ≡ min one two
-    → floats ≡ min resp s → rest ≡ min tables floats → room ≡ min i rest → room ≡ min i (min (min (min row col) (min fall rise)) (min resp s))
+pub least-of-seven : (i row col fall rise resp s : ℕ) {one two tables floats rest room : ℕ} → one ≡ min row col
+    → two ≡ min fall rise → tables ≡ min one two → floats ≡ min resp s → rest ≡ min tables floats → room ≡ min i rest
+    → room ≡ min i (min (min (min row col) (min fall rise)) (min resp s))
 least-of-seven i row col fall rise resp s a b c d e f = rw (f, e, d, c, b, a)
 
 pub room-by : (b : Buffers) {one two tables floats rest room : ℕ} → one ≡ min (length (b .row)) (length (b .col))

@@ -60,7 +60,8 @@ roomOf b =
     (min (min (min (length (b .row)) (length (b .col))) (min (length (b .falling)) (length (b .rising))))
     (min (length (b .response)) (length (b .scratch))))
 
--- "the first W·H entries of working image, tables and response are written, those of the scratch too if blur radius and W·H are not 0 .. Entries beyond stay."
+-- "the first W·H entries of working image, tables and response are written, those of the scratch too if blur radius and
+-- W·H are not 0 .. Entries beyond stay."
 unfoldable pub mappedBy : ℕ → ℕ → ℕ → (ℕ → ℕ → ℕ) → ℕ → ℕ → Buffers → Buffers
 mappedBy factor ray blur f w h b =
     let W = factor * w in

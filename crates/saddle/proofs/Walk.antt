@@ -74,9 +74,10 @@ module _ {A : Type 0} (k : ℕ) (step : Place → Float → Float → A → A) (
     pub most : y ≤ side k
     pub is : s ≡ past (rect 0 (side k) 0 y)
 
-  -- and of row y, of which the disk has columns a to before e, the columns before x
-  pub record Within (y a e x : ℕ) (s : A) : Type 0 where
+  -- and of row y, of which the disk has columns a to before e and whose offset is dy, the columns before x
+  pub record Within (y : ℕ) (dy : Float) (a e x : ℕ) (s : A) : Type 0 where
     pub row : y < side k
+    pub high : dy ≡ offset k y
     pub spans : Spans k y a e
     pub least : a ≤ x
     pub most : x ≤ e
@@ -85,30 +86,33 @@ module _ {A : Type 0} (k : ℕ) (step : Place → Float → Float → A → A) (
   pub above-none : Above 0 z
   above-none = record { most = omega arith; is = rw (rect-none 0 (side k) 0, keep-none) }
 
-  pub within-none : {s : A} {y a e : ℕ} → Above y s → y < side k → Spans k y a e → Within y a e a s
-  within-none {s} {y} {a} {e} r b c =
+  pub within-none : {s : A} {y a e : ℕ} {dy : Float} → Above y s → y < side k → Spans k y a e → dy ≡ offset k y
+      → Within y dy a e a s
+  within-none {s} {y} {a} {e} r b c g =
       let skipped = skip (inDisk k) y (side k) 0 a (omega arith) (λ x u v. before-span c x v) in
       let first = ap (keep (inDisk k)) (before-first 0 (side k) 0 y) in
       record {
         row = b;
+        high = g;
         spans = c;
         least = omega arith;
         most = c .some;
         is = r .is ∙ ap (foldl turn z) (sym (skipped ∙ first));
       }
 
-  module _ {s : A} {y a e x : ℕ} (r : Within y a e x s) where
-    pub within-more : {v : A} {dx dy : Float} → x < e → dx ≡ offset k x → dy ≡ offset k y → v ≡ step (place x y) dx dy s
-        → Within y a e (x + 1) v
-    within-more b f g q =
+  module _ {s : A} {y a e x : ℕ} {dy : Float} (r : Within y dy a e x s) where
+    pub within-more : {v : A} {dx : Float} → x < e → dx ≡ offset k x → v ≡ step (place x y) dx dy s
+        → Within y dy a e (x + 1) v
+    within-more b f q =
         let m : x < side k = omega (arith, r .spans .most) in
         let here = keep-yes (inDisk k) (before 0 (side k) 0 x y) (place x y) (in-span (r .spans) x (r .least) b) in
         record {
           row = r .row;
+          high = r .high;
           spans = r .spans;
           least = omega arith;
           most = omega arith;
-          is = q ∙ rw (f, g, before-more 0 (side k) 0 x y (omega arith), here)
+          is = q ∙ rw (f, r .high, before-more 0 (side k) 0 x y (omega arith), here)
               (rw (foldl-append turn z (keep (inDisk k) (before 0 (side k) 0 x y)), r .is));
         }
 

@@ -4,9 +4,7 @@ use Rattle.frame.proofs.Printing.{Refusal, refused-length, Listing, ful
 use Rattle.frame.proofs.lines.Statement.{statement}
 use Rattle.frame.proofs.lines.Tie as tie
 
-refusal : (c : tie.Then1) →
-    let o = c .before .before .before .args .o in
-    Refusal o (c .before .number .result)
+refusal : (c : tie.Then1) → Refusal (c .before .before .before .args .o) (c .before .number .result)
 refusal c = record { number = c .before .number .ensures; more = c .if1 .taken }
 
 -- from where the corners are counted back to the start
@@ -14,8 +12,7 @@ abbrev start : tie.After-stored → tie.Start
 start c = c .before .before .before .before
 
 listing : (c : tie.After-stored) →
-    let o = start c .args in
-    Listing 3 (o .o) (o .list .now) (c .before .before .number .result) (c .stored .result)
+    Listing 3 (start c .args .o) (start c .args .list .now) (c .before .before .number .result) (c .stored .result)
 listing c = record { number = c .before .before .number .ensures; few = c .before .if1 .left; all = c .stored .ensures }
 
 number-requires : tie.Need-number-requires

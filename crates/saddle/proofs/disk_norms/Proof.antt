@@ -10,7 +10,7 @@ use Rattle.saddle.proofs.disk_norms.Tie as tie
 
 abbrev Inv-loop2 : tie.InvT-loop2
 Inv-loop2 mean k rows reaches s₀ iy dy first end ix₀ s ix =
-    Within k (λ p. normAdded mean) noSums iy first end ix s
+    Within k (λ p. normAdded mean) noSums iy dy first end ix s
 
 abbrev μ-loop2 : tie.MeasureT-loop2
 μ-loop2 mean k rows reaches s₀ iy dy first end ix₀ s ix = end - ix
@@ -42,7 +42,7 @@ offset-of-requires c κs = omega arith
 loop2-holds : tie.Need-loop2-holds Inv-loop2 μ-loop2 Inv-loop μ-loop
 loop2-holds c =
     let row = c .before .before in
-    within-none _ _ _ (row .before .loop .inv) (row .loop-test .taken) (c .before .span-of .ensures)
+    within-none _ _ _ (row .before .loop .inv) (row .loop-test .taken) (c .before .span-of .ensures) (c .offset-of .ensures)
 
 offset-of-requires-2 : tie.Need-offset-of-requires-2 Inv-loop2 μ-loop2 Inv-loop μ-loop
 offset-of-requires-2 c κs = omega arith
@@ -62,8 +62,7 @@ loop2-again : tie.Need-loop2-again Inv-loop2 μ-loop2 Inv-loop μ-loop
 unfolding normAdded
 loop2-again c =
     let turn = at-column c .before in
-    within-more _ _ _ (turn .before .loop2 .inv) (turn .loop2-test .taken) (at-column c .offset-of2 .ensures)
-    (turn .before .before .offset-of .ensures) refl
+    within-more _ _ _ (turn .before .loop2 .inv) (turn .loop2-test .taken) (at-column c .offset-of2 .ensures) refl
 
 add-iy : tie.Need-add-iy Inv-loop2 μ-loop2 Inv-loop μ-loop
 add-iy c = omega arith

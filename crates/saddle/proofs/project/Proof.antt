@@ -13,7 +13,7 @@ use Rattle.saddle.proofs.project.Tie as tie
 
 abbrev Inv-loop2 : tie.InvT-loop2
 Inv-loop2 t k image w h x y reaches rows s₀ iy start dy first end ix₀ s ix =
-    Within k (λ p dx dy s. added t dx dy (around k (pixel image w) x y p) s) noSums iy first end ix s
+    Within k (λ p dx dy s. added t dx dy (around k (pixel image w) x y p) s) noSums iy dy first end ix s
     × (start + side k ≤ length image)
 
 abbrev μ-loop2 : tie.MeasureT-loop2
@@ -74,7 +74,8 @@ offset-of-requires c κs = omega arith
 loop2-holds : tie.Need-loop2-holds Inv-loop2 μ-loop2 Inv-loop μ-loop
 loop2-holds c =
     let row = c .before .before in
-    (within-none _ _ _ (row .before .loop .inv) (row .loop-test .taken) (c .before .span-of .ensures), room row)
+    let walk = within-none _ _ _ (row .before .loop .inv) (row .loop-test .taken) (c .before .span-of .ensures) in
+    (walk (c .offset-of .ensures), room row)
 
 offset-of-requires-2 : tie.Need-offset-of-requires-2 Inv-loop2 μ-loop2 Inv-loop μ-loop
 offset-of-requires-2 c κs = omega arith
@@ -109,8 +110,7 @@ loop2-again c =
     let walk = turn .before .loop2 in
     let row = entered turn in
     let read = pixel-at (entry row .pre) (entry row .args .image .now) (row .before .loop .iy) (walk .ix) in (
-      within-more _ _ _ (walk .inv .0) (turn .loop2-test .taken) (at-column c .offset-of2 .ensures)
-          (turn .before .before .offset-of .ensures) (rw read),
+      within-more _ _ _ (walk .inv .0) (turn .loop2-test .taken) (at-column c .offset-of2 .ensures) (rw read),
       walk .inv .1,
     )
 

@@ -22,7 +22,7 @@ judge-stages-requires c κs = search needs
 returns : tie.Need-returns
 returns c =
     let o = c .before .before .args in
-    said (o .width) (o .height) (o .image) (o .p) (o .room)
+    said (o .w) (o .h) (o .n) (o .p) (o .cap)
     (c .before .judge-list-settings .ensures)
     (c .judge-stages .ensures)
 

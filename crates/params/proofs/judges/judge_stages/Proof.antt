@@ -39,7 +39,7 @@ returns : tie.Need-returns
 returns c =
     let l = asked c in
     let o = start l .args in
-    stages-are (o .width) (o .height) (o .image) (o .p) (o .room) (o .list)
+    stages-are (o .w) (o .h) (o .n) (o .p) (o .cap) (o .list)
     (mapped l .before .judge-size .ensures)
     (mapped l .judge-map-settings .ensures)
     (l .before .pixels .ensures)
