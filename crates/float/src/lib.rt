@@ -1,1 +1,1 @@
-// Laws of f32 arithmetic that more than one part leans on. All of it stands in specs/.
+// Laws of f32 arithmetic that more than one part leans on. Definitions stand in specs/, laws in proofs/.

@@ -1,1 +1,1 @@
-// The laws of flat maps: buffers that a pass fills, sums along their lines, places in row order. All of it stands in specs/.
+// The laws of flat maps: buffers that a pass fills, sums along their lines, places in row order. Definitions stand in specs/, laws in proofs/.
