@@ -107,7 +107,8 @@ module _ {M : Type 1} (𝓤 : URA M) (H : Heap 𝓤) (A : Atoms 𝓤) (W : Given
         pass1 ! (init ! 4 refl (tt, record { fits = fx })) $ pass1 ! (init ! 2 refl (tt, record { fits = fy })) $ pass0 ! $
         move ! (16 ∷ []) $ use1 W (raw (New 𝓤 H A mem run .pre (to-new 𝓤 H A W mem run κ q s t w h)) ⊛ ‵ Numbers)
         (new-asks 𝓤 H A W mem run κ q s t w h Numbers) $ split ! $
-        makes ! mem run κ q s t w h fm known-new (passes ! 14 refl (passes ! 12 refl (passes ! 10 refl (passes ! 8 refl (no-more !))))) (λ u r made is.
+        makes ! mem run κ q s t w h fm known-new
+        (passes ! 14 refl (passes ! 12 refl (passes ! 10 refl (passes ! 8 refl (no-more !))))) (λ u r made is.
         -- [what the view owns; the token; what the numbers own; room for _7; …; _6; …; _0; …]
         land ! (from ! (stop !)) (init ! 3 refl (in-local 𝓤 H A W mem run κ r u is)) $
         use3 W (raw (At 𝓤 H A mem run .pre (to-at r u))) (at-asks r u) $
