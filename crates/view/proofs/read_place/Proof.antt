@@ -38,10 +38,9 @@ use Rattle.view.specs.declared.Place.{Place}
 use Rattle.view.proofs.Copies.{passes}
 use Rattle.view.proofs.Walk.{gone, ends, answered, met}
 use Rattle.view.proofs.Viewed.{ViewAt, Token}
-use Rattle.view.proofs.Lent.{lent, New, in-local, to-new, new-asks, new-known}
+use Rattle.view.proofs.Lent.{lent, New, in-local, to-new, new-asks, new-known, makes}
 use Rattle.view.proofs.Place as P
 use Rattle.view.proofs.Place.Laws as P′
-use Rattle.view.proofs.RadonResponseView.new as new
 use Rattle.view.proofs.RadonResponseView.new.Symbol as new-def
 use Rattle.view.proofs.RadonResponseView.at as at
 use Rattle.view.proofs.RadonResponseView.at.Symbol as at-def
@@ -106,21 +105,15 @@ module _ {M : Type 1} (𝓤 : URA M) (H : Heap 𝓤) (A : Atoms 𝓤) (W : Given
         pass1 ! (init ! 10 refl (shr-slice-lawful 𝓤 H A W (named 0) κ u8 .typed t (slice-vals t) pt .0)) $
         pass1 ! (init ! 8 refl (tt, record { fits = fw })) $ pass1 ! (init ! 6 refl (tt, record { fits = fh })) $
         pass1 ! (init ! 4 refl (tt, record { fits = fx })) $ pass1 ! (init ! 2 refl (tt, record { fits = fy })) $ pass0 ! $
-        move ! (16 ∷ []) $
-        use1 W (raw (New 𝓤 H A mem run .pre (to-new 𝓤 H A W mem run κ q s t w h)) ⊛ ‵ Numbers)
-        (new-asks 𝓤 H A W mem run κ q s t w h Numbers) $
-        split ! $
-        calls-at ! fm (New 𝓤 H A mem run) known-new (to-new 𝓤 H A W mem run κ q s t w h)
-        (passes ! 14 refl (passes ! 12 refl (passes ! 10 refl (passes ! 8 refl (no-more !)))))
-        (λ u.
-        answered ! tt new.ended (new.clauses 𝓤 H A mem run) (to-new 𝓤 H A W mem run κ q s t w h) u (Token κ q) (id⊢ 𝓤 _)
-        (λ r. r ≡ viewOf s t w h) (λ r e. id⊢ 𝓤 _) (λ r made is.
+        move ! (16 ∷ []) $ use1 W (raw (New 𝓤 H A mem run .pre (to-new 𝓤 H A W mem run κ q s t w h)) ⊛ ‵ Numbers)
+        (new-asks 𝓤 H A W mem run κ q s t w h Numbers) $ split ! $
+        makes ! mem run κ q s t w h fm known-new
+        (passes ! 14 refl (passes ! 12 refl (passes ! 10 refl (passes ! 8 refl (no-more !))))) (λ u r made is.
         -- [what the view owns; the token; what the numbers own; room for _7; …; _6; …; _0; …]
         land ! (from ! (stop !)) (init ! 3 refl (in-local 𝓤 H A W mem run κ r u is)) $
         use3 W (raw (At 𝓤 H A mem run .pre (to-at r u))) (at-asks r u) $
         calls-at ! fm (At 𝓤 H A mem run) known-at (to-at r u)
-        (passes ! 1 refl (passes ! 5 refl (passes ! 3 refl (no-more !))))
-        (λ v.
+        (passes ! 1 refl (passes ! 5 refl (passes ! 3 refl (no-more !)))) (λ v.
         answered ! tt at.ended (at.clauses 𝓤 H A mem run) (to-at r u) v (Token κ q) (id⊢ 𝓤 _) (λ p. p ≡ placeIn r) (λ p e. id⊢ 𝓤 _) (λ p found is′.
         -- [the result; the token; _7; …; _0; …]
         land ! (from ! (stop !)) (init ! 16 refl (EL.lawful P.the-type P′.the-laws 𝓤 H A W tt .typed p _ is′ .0)) $ returns ! (look ! 16 refl) $
@@ -130,7 +123,7 @@ module _ {M : Type 1} (𝓤 : URA M) (H : Heap 𝓤) (A : Atoms 𝓤) (W : Given
         move ! (8 ∷ 9 ∷ []) $ free1 ! $ move ! (6 ∷ 7 ∷ []) $ free1 ! $ move ! (4 ∷ 5 ∷ []) $ free1 ! $ move ! (2 ∷ 3 ∷ []) $ free1 ! $ free0 ! $
         by !
         (ends 𝓤 H A W read.ended (read.clauses 𝓤 H A mem run) z v p (tt, (tt, (tt, (tt, (tt, (tt, tt))))))
-        (p ≡ placeIn (viewOf s t w h)) (found ∙ ap placeIn made) (id⊢ 𝓤 _))))))))))))))
+        (p ≡ placeIn (viewOf s t w h)) (found ∙ ap placeIn made) (id⊢ 𝓤 _)))))))))))))
 
 pub read-place-spec : {M : Type 1} → stated.statement M
 unfolding code.routine

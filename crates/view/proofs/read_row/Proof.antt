@@ -36,8 +36,7 @@ use Rattle.view.specs.declared.RadonResponseView.{RadonResponseView}
 use Rattle.view.proofs.Copies.{passes}
 use Rattle.view.proofs.Walk.{gone, ends, answered, met}
 use Rattle.view.proofs.Viewed.{ViewAt, Token}
-use Rattle.view.proofs.Lent.{lent, New, in-local, to-new, new-asks, new-known}
-use Rattle.view.proofs.RadonResponseView.new as new
+use Rattle.view.proofs.Lent.{lent, New, in-local, to-new, new-asks, new-known, makes}
 use Rattle.view.proofs.RadonResponseView.new.Symbol as new-def
 use Rattle.view.proofs.RadonResponseView.row as row
 use Rattle.view.proofs.RadonResponseView.row.Symbol as row-def
@@ -101,21 +100,15 @@ module _ {M : Type 1} (𝓤 : URA M) (H : Heap 𝓤) (A : Atoms 𝓤) (W : Given
           pass1 ! (init ! 8 refl (shr-slice-lawful 𝓤 H A W (named 0) κ u8 .typed t (slice-vals t) pt .0)) $
           pass1 ! (init ! 6 refl (tt, record { fits = fw })) $ pass1 ! (init ! 4 refl (tt, record { fits = fh })) $
           pass1 ! (init ! 2 refl (tt, record { fits = fy })) $ pass0 ! $
-          move ! (14 ∷ []) $
-          use1 W (raw (New 𝓤 H A mem run .pre (to-new 𝓤 H A W mem run κ q s t w h)) ⊛ ‵ Number)
-          (new-asks 𝓤 H A W mem run κ q s t w h Number) $
-          split ! $
-          calls-at ! fm (New 𝓤 H A mem run) known-new (to-new 𝓤 H A W mem run κ q s t w h)
-          (passes ! 12 refl (passes ! 10 refl (passes ! 8 refl (passes ! 6 refl (no-more !)))))
-          (λ u.
-          answered ! tt new.ended (new.clauses 𝓤 H A mem run) (to-new 𝓤 H A W mem run κ q s t w h) u (Token κ q) (id⊢ 𝓤 _)
-          (λ r. r ≡ viewOf s t w h) (λ r e. id⊢ 𝓤 _) (λ r made is.
+          move ! (14 ∷ []) $ use1 W (raw (New 𝓤 H A mem run .pre (to-new 𝓤 H A W mem run κ q s t w h)) ⊛ ‵ Number)
+          (new-asks 𝓤 H A W mem run κ q s t w h Number) $ split ! $
+          makes ! mem run κ q s t w h fm known-new
+          (passes ! 12 refl (passes ! 10 refl (passes ! 8 refl (passes ! 6 refl (no-more !))))) (λ u r made is.
           -- [what the view owns; the token; what the number owns; room for _6; …; _5; …; _0; …]
           land ! (from ! (stop !)) (init ! 3 refl (in-local 𝓤 H A W mem run κ r u is)) $
           use3 W (raw (RowOf 𝓤 H A mem run .pre (to-row r u))) (row-asks r u) $
           calls-at ! fm (RowOf 𝓤 H A mem run) known-row (to-row r u)
-          (passes ! 1 refl (passes ! 3 refl (no-more !)))
-          (λ v.
+          (passes ! 1 refl (passes ! 3 refl (no-more !))) (λ v.
           answered ! tt row.ended (row.clauses 𝓤 H A mem run) (to-row r u) v (Token κ q) (id⊢ 𝓤 _) (RowIn r) (λ p e. id⊢ 𝓤 _) (λ p found is′.
           -- [the row; the token; _6; …; _0; …]
           land ! (from ! (stop !)) (init ! 14 refl (shr-slice-lawful 𝓤 H A W (named 0) κ f32 .typed p _ is′ .0)) $ returns ! (look ! 14 refl) $
@@ -124,7 +117,7 @@ module _ {M : Type 1} (𝓤 : URA M) (H : Heap 𝓤) (A : Atoms 𝓤) (W : Given
           move ! (6 ∷ 7 ∷ []) $ free1 ! $ move ! (4 ∷ 5 ∷ []) $ free1 ! $ move ! (2 ∷ 3 ∷ []) $ free1 ! $ free0 ! $
           by !
           (ends 𝓤 H A W read.ended (read.clauses 𝓤 H A mem run) z v p (tt, (tt, (tt, (tt, (tt, tt))))) (RowIn (viewOf s t w h) p)
-          (subst (λ (r′ : RadonResponseView). RowIn r′ p) made found) (id⊢ 𝓤 _)))))))))))))
+          (subst (λ (r′ : RadonResponseView). RowIn r′ p) made found) (id⊢ 𝓤 _))))))))))))
 
 pub read-row-spec : {M : Type 1} → stated.statement M
 unfolding code.routine
