@@ -1,4 +1,5 @@
--- When a map w wide and h high fits into a buffer with room for so many entries. "Input width and height are 0 to 4,096", so no working side passes 8,192.
+-- When a map w wide and h high fits into a buffer with room for so many entries.
+-- "Input width and height are 0 to 4,096", so no working side passes 8,192.
 use mathlib.Core.Bool.{Bool, _&&_}
 use Prim.Native.Nat.{ℕ, _*_}
 use lib.Dec.{leb}
