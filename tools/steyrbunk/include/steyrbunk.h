@@ -15,7 +15,10 @@
  * first W*H entries of each are written, row after row (those of blur_scratch only if the blur radius
  * is not 0); entries beyond stay as they were. With every other answer no buffer changes.
  * No two buffers may overlap, and none may overlap the image. Where a length is 0 its pointer is not
- * read.
+ * read. Tables, response, scratch and list must be aligned to four bytes, as malloc aligns them, and
+ * count, w and h as a size_t is; image and working may lie anywhere. count, w and h are written with
+ * every answer and must not be null: a null one is written through, and the program is ended by the
+ * system or worse.
  *
  * Answers. The lowest number of 2 to 9 that applies is given; 14 comes before them.
  *    0  accepted, all corners are in the list
