@@ -50,9 +50,9 @@ impl Summary {
         }
         writeln!(
             out,
-            "A corner's peak that is flat along an axis (small curvature) has no sharp place there: the two programs'
-logarithms differ in their last bits, and a flat peak magnifies that. A step is the smallest change
-of a printed number; a distance below 0.001 pixels moves nothing that a panel's fit can feel."
+            "Curvature says how sharply a corner's peak falls off along an axis: the flatter it is, the less a place
+along that axis means, and the further the last bits of two logarithms move it. A step is the smallest
+change that a printed number can make."
         )?;
         writeln!(out, "  curvature     coordinates  greatest distance")?;
         for (at, class) in classes
