@@ -13,6 +13,7 @@ mod site;
 mod work;
 
 use std::env;
+use std::io::ErrorKind;
 use std::path::{Path, PathBuf};
 use std::process::ExitCode;
 use std::time::{Duration, SystemTime};
@@ -148,25 +149,32 @@ impl Run<'_> {
         }
     }
 
-    /// Frames of the run before that were in a folder of this call and are there no more.
+    /// Frames of the run before that were in a folder of this call and are there no more, or cannot be got at.
     fn gone(&mut self, group: &Group, site: &Site) -> Vec<Record> {
         let mut records = Vec::new();
         for earlier in &site.before {
             let path = path_of(&earlier.path);
-            let named = group.named.iter().any(|folder| path.starts_with(folder));
-            if named && std::fs::symlink_metadata(&path).is_err() {
-                self.frames += 1;
-                self.failed += 1;
-                self.tell(&format!("{}: {}", shown(&path), record::GONE));
-                records.push(Record {
-                    name: earlier.name.clone(),
-                    path: earlier.path.clone(),
-                    read: None,
-                    end: End::Gone,
-                    results: Vec::new(),
-                    time: Duration::ZERO,
-                });
+            if !group.named.iter().any(|folder| path.starts_with(folder)) {
+                continue;
             }
+            let (end, words) = match std::fs::symlink_metadata(&path) {
+                Ok(_) => continue,
+                Err(error) if error.kind() == ErrorKind::NotFound => {
+                    (End::Gone, record::GONE.to_string())
+                }
+                Err(error) => (End::Problem(error.to_string().into()), error.to_string()),
+            };
+            self.frames += 1;
+            self.failed += 1;
+            self.tell(&format!("{}: {words}", shown(&path)));
+            records.push(Record {
+                name: earlier.name.clone(),
+                path: earlier.path.clone(),
+                read: None,
+                end,
+                results: Vec::new(),
+                time: Duration::ZERO,
+            });
         }
         records
     }
@@ -224,25 +232,20 @@ fn find(options: &Options) -> Result<ExitCode, Usage> {
         problems: 0,
         noted: false,
     };
-    // The runs before are taken away everywhere before any frame is read.
-    let mut sites = Vec::new();
+    // The runs before are taken away everywhere before any frame is read. A folder that cannot be had stops none of the others.
+    let mut taken = Vec::new();
     for group in &groups {
-        sites.push(match &group.folder {
-            None => None,
-            Some(folder) => match Site::take(folder, &group.below) {
-                Ok(site) => Some(site),
-                Err(error) => {
-                    run.fail(&error.to_string());
-                    continue;
-                }
-            },
-        });
+        match group
+            .folder
+            .as_deref()
+            .map(|folder| Site::take(folder, &group.below))
+        {
+            Some(Err(error)) => run.fail(&error.to_string()),
+            Some(Ok(site)) => taken.push((group, Some(site))),
+            None => taken.push((group, None)),
+        }
     }
-    if sites.len() < groups.len() {
-        run.tell("nothing was found");
-        return Ok(ExitCode::from(1));
-    }
-    for (group, site) in groups.iter().zip(&sites) {
+    for (group, site) in &taken {
         group.problems.iter().for_each(|problem| run.fail(problem));
         match site {
             None => run.print(group),

@@ -395,6 +395,15 @@ fn rights() {
     );
     let manifest = fs::read_to_string(lists.join("run.json")).unwrap();
     assert!(manifest.contains("\"problems\":[\"frames/closed: Permission denied"));
+    // What the run before had there cannot be got at, which is not to be gone.
+    for name in ["closed/a.pgm", "closed/b.pgm"] {
+        assert!(
+            manifest.contains(&format!("{{\"name\":\"{name}\"")),
+            "{manifest}"
+        );
+        assert!(error(&output).contains(&format!("frames/{name}: Permission denied")));
+    }
+    assert!(!manifest.contains("\"gone\""));
     // An output that cannot be written: nothing is changed, and what is there is of one run.
     give(&frames.join("closed"), 0o755);
     let before = all(&lists);
@@ -470,6 +479,35 @@ fn two_at_a_time() {
     let files: Vec<String> = all(&lists).into_keys().collect();
     assert_eq!(files, ["run.json", "stdin.corners"]);
     assert_eq!(status(&run(&folder, &["--out", "lists", "frames"])), 0);
+}
+
+/// Of several folders one that another run has stops none of the others.
+#[test]
+fn one_of_several() {
+    let folder = folder("several");
+    for name in ["one", "two", "three"] {
+        fs::create_dir_all(folder.join(name)).unwrap();
+        fs::write(folder.join(name).join("a.pgm"), board(0, 1)).unwrap();
+    }
+    let words = ["--beside", "--quiet", "one", "two", "three"];
+    assert_eq!(status(&run(&folder, &words)), 0);
+    let lock = fs::File::open(folder.join("two")).unwrap();
+    lock.lock().unwrap();
+    let before = all(&folder.join("two"));
+    fs::write(folder.join("one/a.pgm"), board(1, 1)).unwrap();
+    let old = fs::read(folder.join("one/a.pgm.corners")).unwrap();
+    let output = run(&folder, &words);
+    assert_eq!(status(&output), 1);
+    assert_eq!(
+        error(&output),
+        "two: another run is writing there; nothing was changed\n"
+    );
+    assert_eq!(all(&folder.join("two")), before);
+    assert_ne!(fs::read(folder.join("one/a.pgm.corners")).unwrap(), old);
+    for name in ["one", "three"] {
+        let names: Vec<String> = all(&folder.join(name)).into_keys().collect();
+        assert_eq!(names, ["a.pgm", "a.pgm.corners", "run.json"]);
+    }
 }
 
 /// Frames that are gone, an empty mount point, a folder that is gone.

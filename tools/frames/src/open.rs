@@ -60,6 +60,12 @@ impl From<std::io::Error> for Problem {
     }
 }
 
+impl From<String> for Problem {
+    fn from(text: String) -> Problem {
+        Problem::Damaged(text)
+    }
+}
+
 /// The bytes of a file that is not longer than a frame can be.
 pub fn read(path: &Path) -> Result<Vec<u8>, Problem> {
     console::read(path)?.ok_or(Problem::Refused(Refusal::FileTooLong))
