@@ -18,7 +18,8 @@ use Rattle.grid.specs.Plane.{plane}
 use Rattle.grid.proofs.Plane.{getD-plane, pixel-in, row-in, next-row, column-in, row-number-in}
 use Rattle.grid.specs.Fold.{fsum}
 use Rattle.grid.proofs.Fold.{fold-none, fold-on}
-use Rattle.blur.specs.Blur.{valueAt, counted, windowSum, meanAt, rowMean, columnMean, blurAt, scratched}
+use Rattle.means.specs.Means.{valueAt, counted, windowSum, meanAt, columnMean}
+use Rattle.blur.specs.Blur.{rowMean, blurAt, scratched}
 use Rattle.as_rust.specs.Machine.{Machine, _⊕_, _⊗_, _⊘_, lit-0, lit-1, as-f32, float-at, put, for, chunks}
 use Rattle.as_rust.specs.Primitives.{horiz-px, horiz-kernel, vert-kernel, box-blur-inplace}
 use Rattle.as_rust.proofs.Machine.{usize-is, less-is, inside, put-is}

@@ -25,7 +25,8 @@ use Rattle.rays.specs.Tables.{tableOf}
 use Rattle.rays.proofs.Summed.{table-filled}
 use Rattle.rays.specs.Response.{responseAt}
 use Rattle.rays.proofs.Inner.{response-ext}
-use Rattle.blur.specs.Blur.{valueAt, rowMean, blurAt, scratched}
+use Rattle.means.specs.Means.{valueAt}
+use Rattle.blur.specs.Blur.{rowMean, blurAt, scratched}
 use Rattle.blur.proofs.BlurLaws.{rowMean-ext, blurAt-ext}
 use Rattle.response.proofs.Runs.{Runs, side-most}
 use Rattle.response.specs.Map.{Buffers, rawAt, mapAt, mappedBy, mapped, sideOf}

@@ -2,57 +2,26 @@
 -- blurred map. And what the scratch holds, and the two passes one after the other. Assumes nothing.
 use mathlib.Core.Path.{_≡_, refl, ap, _∙_}
 use mathlib.Core.Logic.{_≢_}
-use Prim.Native.Nat.{ℕ, zero, suc, _+_, _-_, _*_, _≤_, _<_}
+use Prim.Native.Nat.{ℕ, zero, suc, _*_, _≤_, _<_}
 use native.Mathlib.Nat.{div-add-mod'}
 use native.Mathlib.Omega.{arith}
 use mathlib.Core.List.{List}
 use lib.Dec.{T}
 use lib.ListN.{length, getD, take, drop}
-use lib.Ieee.{Float, nan, binary32, add, fits}
+use lib.Ieee.{Float, nan, binary32, fits}
 use lib.Ieee.Fits.{mul-fits}
-use Rattle.float.specs.Values.{f0}
-use Rattle.grid.proofs.Fold.{fold-ext}
 use Rattle.grid.specs.Fill.{filled}
 use Rattle.grid.proofs.Fill.{written-same, drop-filled}
 use Rattle.grid.specs.Plane.{plane}
 use Rattle.grid.proofs.Plane.{plane-ext, getD-plane, pixel-in}
 use Rattle.grid.proofs.Touch.{filled-same}
-use Rattle.blur.specs.Blur.{valueAt, counted, windowSum, meanAt, rowMean, columnMean, blurAt, scratched}
-
--- a place of a window is one of the n
-pub place-in : (n r x k : ℕ) → k < counted n r x → x - r + k < n
-place-in n r x k b = omega arith
-
--- and no further from x than r
-place-near : (n r x k : ℕ) → k < counted n r x → (x ≤ x - r + k + r) × (x - r + k ≤ x + r)
-place-near n r x k b = omega arith
-
--- only the values in the window count
-pub windowSum-near : (f g : ℕ → Float) (n r x : ℕ) → ((j : ℕ) → x ≤ j + r → j ≤ x + r → j < n → f j ≡ g j) → windowSum f n r x ≡ windowSum g n r x
-unfolding windowSum
-windowSum-near f g n r x e =
-    fold-ext (add binary32) f0 _ _ (counted n r x) (λ k b. e (x - r + k) (place-near n r x k b .0) (place-near n r x k b .1) (place-in n r x k b))
-
-pub windowSum-ext : (f g : ℕ → Float) (n r x : ℕ) → ((j : ℕ) → j < n → f j ≡ g j) → windowSum f n r x ≡ windowSum g n r x
-windowSum-ext f g n r x e = windowSum-near f g n r x (λ j _ _ b. e j b)
-
-pub meanAt-ext : (f g : ℕ → Float) (n r x : ℕ) → ((j : ℕ) → j < n → f j ≡ g j) → meanAt f n r x ≡ meanAt g n r x
-unfolding meanAt
-meanAt-ext f g n r x e = rw (windowSum-ext f g n r x e)
+use Rattle.means.specs.Means.{valueAt, columnMean}
+use Rattle.means.proofs.MeanLaws.{meanAt-ext, columnMean-ext}
+use Rattle.blur.specs.Blur.{rowMean, blurAt, scratched}
 
 pub rowMean-ext : (g k : ℕ → ℕ → Float) (w r x y : ℕ) → ((j : ℕ) → j < w → g j y ≡ k j y) → rowMean g w r x y ≡ rowMean k w r x y
 unfolding rowMean
 rowMean-ext g k w r x y e = meanAt-ext (λ j. g j y) (λ j. k j y) w r x e
-
--- the rows of the window alone, for a pass that fills the others later
-pub columnMean-near : (g k : ℕ → ℕ → Float) (h r x y : ℕ) → ((j : ℕ) → y ≤ j + r → j ≤ y + r → j < h → g x j ≡ k x j)
-    → columnMean g h r x y ≡ columnMean k h r x y
-unfolding columnMean
-columnMean-near g k h r x y e = rw (windowSum-near (λ j. g x j) (λ j. k x j) h r y e)
-
-pub columnMean-ext : (g k : ℕ → ℕ → Float) (h r x y : ℕ) → ((j : ℕ) → j < h → g x j ≡ k x j)
-    → columnMean g h r x y ≡ columnMean k h r x y
-columnMean-ext g k h r x y e = columnMean-near g k h r x y (λ j _ _ b. e j b)
 
 pub blurAt-ext : (g k : ℕ → ℕ → Float) (w h r x y : ℕ) → x < w → y < h → ((i j : ℕ) → i < w → j < h → g i j ≡ k i j)
     → blurAt g w h r x y ≡ blurAt k w h r x y

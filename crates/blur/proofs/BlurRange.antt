@@ -21,8 +21,9 @@ use Rattle.float.proofs.Sized.{Held, held}
 use Rattle.float.proofs.Ranged.{Ranged, Exact, exact, ranged-sized, ranged-wider, ranged-least, ranged-most, ranged-finite, ranged-above}
 use Rattle.float.proofs.Ranged.{ranged-whole, add-left, add-right, mul-ranged, div-ranged, add-zeros, mul-zero-by, div-zero-by, zero-sized}
 use Rattle.grid.specs.Fold.{fold, fsum}
-use Rattle.blur.specs.Blur.{counted, windowSum, meanAt, rowMean, columnMean, blurAt}
-use Rattle.blur.proofs.BlurLaws.{place-in}
+use Rattle.means.specs.Means.{counted, windowSum, meanAt, columnMean}
+use Rattle.means.proofs.MeanLaws.{place-in}
+use Rattle.blur.specs.Blur.{rowMean, blurAt}
 
 -- zero, or at least a / c and at most n
 abbrev pub ZeroOr : ℕ → ℕ → ℕ → Float → Type 0

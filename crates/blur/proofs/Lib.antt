@@ -1,5 +1,5 @@
--- What the blur depends on, how large its values are and which sizes fit, for callers; then the steps of the proofs.
+-- What the blur depends on, how large its values are and which sizes fit, for callers; then the rows of the proofs.
 pub mod BlurLaws
 pub mod BlurRange
 pub mod Fits
-pub mod Steps
+pub mod RowParts

@@ -16,7 +16,8 @@ use Rattle.grid.specs.Ways.{pixel, along, down, fall, rise, ray}
 use Rattle.params.specs.declared.settings.PeakFitMode.the-variants.{Parabolic}
 use Rattle.upsample.specs.Upsample.{upAt}
 use Rattle.rays.specs.Response.{raySpread, square, responseAt}
-use Rattle.blur.specs.Blur.{valueAt, windowSum, meanAt, rowMean, columnMean, blurAt}
+use Rattle.means.specs.Means.{valueAt, windowSum, meanAt, columnMean}
+use Rattle.blur.specs.Blur.{rowMean, blurAt}
 use Rattle.rays.proofs.Inner.{narrow-zero}
 use Rattle.saddle.specs.Saddle.{disk}
 use Rattle.peak_fit.specs.PeakFit.{fitOf}

@@ -22,7 +22,8 @@ use Rattle.rays.specs.Lent.{Lent, tabled, raysOf, raysFit}
 use Rattle.rays.proofs.Fit.{Fitted, rays-plain}
 use Rattle.rays.proofs.Summed.{table-filled}
 use Rattle.rays.proofs.Inner.{response-ext}
-use Rattle.blur.specs.Blur.{valueAt, blurAt, scratched, blurFits}
+use Rattle.means.specs.Means.{valueAt}
+use Rattle.blur.specs.Blur.{blurAt, scratched, blurFits}
 use Rattle.blur.proofs.BlurLaws.{blurAt-ext, scratched-ext}
 use Rattle.blur.specs.Fitting.{FittingMaps}
 use Rattle.blur.proofs.Fits.{blur-plain}

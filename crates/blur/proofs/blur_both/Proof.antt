@@ -1,6 +1,6 @@
 -- `blur::blur_both` meets its contract: nothing for radius 0, and otherwise the second pass over what the first one wrote. Assumes nothing.
 use borrow.Author.Needs.{needs}
-use Rattle.blur.specs.Blur.{valueAt}
+use Rattle.means.specs.Means.{valueAt}
 use Rattle.blur.proofs.BlurLaws.{blur-none, scratch-none, blur-some, scratch-some}
 use Rattle.blur.proofs.blur_both.Statement.{statement}
 use Rattle.blur.proofs.blur_both.Tie as tie

@@ -1,10 +1,11 @@
 -- `blur::blur_columns` meets its contract: a turn fills one row. Assumes nothing.
 use Prim.Native.Nat.{_-_}
 use native.Mathlib.Omega.{arith}
-use lib.ListN.{length-take, length-drop}
+use borrow.Author.Needs.{needs}
 use Rattle.grid.proofs.Loops.{Rows, rows-none, rows-all}
 use Rattle.grid.proofs.Part.{rows-part}
-use Rattle.blur.specs.Blur.{valueAt, columnMean}
+use Rattle.means.specs.Means.{valueAt, columnMean}
+use Rattle.blur.proofs.RowParts.{column-part}
 use Rattle.blur.proofs.blur_columns.Statement.{statement}
 use Rattle.blur.proofs.blur_columns.Tie as tie
 
@@ -27,20 +28,20 @@ row-start-requires c κs = omega arith
 add-j : tie.Need-add-j Inv-loop μ-loop
 add-j c = omega arith
 
-mul-mean-column : tie.Need-mul-mean-column Inv-loop μ-loop
-mul-mean-column c = omega arith
+mul-column-means : tie.Need-mul-column-means Inv-loop μ-loop
+mul-column-means c = omega arith
 
-sub-mean-column : tie.Need-sub-mean-column Inv-loop μ-loop
-sub-mean-column c = omega arith
+sub-column-means : tie.Need-sub-column-means Inv-loop μ-loop
+sub-column-means c = omega arith
 
-part-mean-column-start : tie.Need-part-mean-column-start Inv-loop μ-loop
-part-mean-column-start c = omega arith
+part-column-means-start : tie.Need-part-column-means-start Inv-loop μ-loop
+part-column-means-start c = omega arith
 
-part-mean-column-end : tie.Need-part-mean-column-end Inv-loop μ-loop
-part-mean-column-end c = omega arith
+part-column-means-end : tie.Need-part-column-means-end Inv-loop μ-loop
+part-column-means-end c = omega arith
 
-mean-column-requires : tie.Need-mean-column-requires Inv-loop μ-loop
-mean-column-requires c κs = simp (length-take, length-drop) (omega arith)
+column-means-requires : tie.Need-column-means-requires Inv-loop μ-loop
+column-means-requires c κs = search needs
 
 add-y : tie.Need-add-y Inv-loop μ-loop
 add-y c = omega arith
@@ -51,8 +52,12 @@ loop-less c = omega arith
 loop-again : tie.Need-loop-again Inv-loop μ-loop
 loop-again c =
     let t = turned c in
-    let row = c .before .before .mean-column .ensures in
-    rows-part _ _ _ _ (t .row-start .ensures .0) (t .before .before .loop .inv) (t .before .loop-test .taken) row
+    let l = t .before .before in
+    let s = l .before .before .before in
+    let in-y = t .before .loop-test .taken in
+    let row = column-part (s .args .scratch .now) (l .loop .resp) (l .loop .y) _ (s .pre) (l .loop .inv .long)
+    in-y (t .row-start .ensures .1) (c .before .before .column-means .ensures) in
+    rows-part _ _ _ _ (t .row-start .ensures .0) (l .loop .inv) in-y row
 
 same-length : tie.Need-same-length Inv-loop μ-loop
 same-length c = c .before .loop .inv .long
@@ -69,11 +74,11 @@ blur-columns-spec =
     loop-holds
     row-start-requires
     add-j
-    mul-mean-column
-    sub-mean-column
-    part-mean-column-start
-    part-mean-column-end
-    mean-column-requires
+    mul-column-means
+    sub-column-means
+    part-column-means-start
+    part-column-means-end
+    column-means-requires
     add-y
     loop-less
     loop-again

@@ -1,11 +1,12 @@
 -- `blur::blur_rows` meets its contract: a turn fills one row, with the means of the part that is the row. Assumes nothing.
 use Prim.Native.Nat.{_-_}
 use native.Mathlib.Omega.{arith}
-use lib.ListN.{length-take, length-drop}
+use borrow.Author.Needs.{needs}
 use Rattle.grid.proofs.Loops.{Rows, rows-none, rows-all}
 use Rattle.grid.proofs.Part.{rows-part}
-use Rattle.blur.specs.Blur.{valueAt, rowMean}
-use Rattle.blur.proofs.Steps.{row-part}
+use Rattle.means.specs.Means.{valueAt}
+use Rattle.blur.specs.Blur.{rowMean}
+use Rattle.blur.proofs.RowParts.{row-part}
 use Rattle.blur.proofs.blur_rows.Statement.{statement}
 use Rattle.blur.proofs.blur_rows.Tie as tie
 
@@ -28,32 +29,32 @@ row-start-requires c κs = omega arith
 add-j : tie.Need-add-j Inv-loop μ-loop
 add-j c = omega arith
 
-mul-mean-row : tie.Need-mul-mean-row Inv-loop μ-loop
-mul-mean-row c = omega arith
+mul-row-means : tie.Need-mul-row-means Inv-loop μ-loop
+mul-row-means c = omega arith
 
-sub-mean-row : tie.Need-sub-mean-row Inv-loop μ-loop
-sub-mean-row c = omega arith
+sub-row-means : tie.Need-sub-row-means Inv-loop μ-loop
+sub-row-means c = omega arith
 
-part-mean-row-start : tie.Need-part-mean-row-start Inv-loop μ-loop
-part-mean-row-start c = omega arith
+part-row-means-start : tie.Need-part-row-means-start Inv-loop μ-loop
+part-row-means-start c = omega arith
 
-part-mean-row-end : tie.Need-part-mean-row-end Inv-loop μ-loop
-part-mean-row-end c = omega arith
+part-row-means-end : tie.Need-part-row-means-end Inv-loop μ-loop
+part-row-means-end c = omega arith
 
-mul-mean-row-2 : tie.Need-mul-mean-row-2 Inv-loop μ-loop
-mul-mean-row-2 c = omega arith
+mul-row-means-2 : tie.Need-mul-row-means-2 Inv-loop μ-loop
+mul-row-means-2 c = omega arith
 
-sub-mean-row-2 : tie.Need-sub-mean-row-2 Inv-loop μ-loop
-sub-mean-row-2 c = omega arith
+sub-row-means-2 : tie.Need-sub-row-means-2 Inv-loop μ-loop
+sub-row-means-2 c = omega arith
 
-part-mean-row-start-2 : tie.Need-part-mean-row-start-2 Inv-loop μ-loop
-part-mean-row-start-2 c = omega arith
+part-row-means-start-2 : tie.Need-part-row-means-start-2 Inv-loop μ-loop
+part-row-means-start-2 c = omega arith
 
-part-mean-row-end-2 : tie.Need-part-mean-row-end-2 Inv-loop μ-loop
-part-mean-row-end-2 c = omega arith
+part-row-means-end-2 : tie.Need-part-row-means-end-2 Inv-loop μ-loop
+part-row-means-end-2 c = omega arith
 
-mean-row-requires : tie.Need-mean-row-requires Inv-loop μ-loop
-mean-row-requires c κs = simp (length-take, length-drop) (omega arith)
+row-means-requires : tie.Need-row-means-requires Inv-loop μ-loop
+row-means-requires c κs = search needs
 
 add-y : tie.Need-add-y Inv-loop μ-loop
 add-y c = omega arith
@@ -65,9 +66,10 @@ loop-again : tie.Need-loop-again Inv-loop μ-loop
 loop-again c =
     let t = turned c in
     let l = t .before .before in
-    let p = l .before .before .before .args in
+    let s = l .before .before .before in
     let at = t .row-start .ensures .0 in
-    let row = row-part (p .resp .now) (p .w) (p .radius) (l .loop .y) _ at (omega arith) (c .before .before .mean-row .ensures) in
+    let row = row-part (s .args .resp .now) (l .loop .scratch) (l .loop .y) _ (s .pre) (l .loop .inv .long)
+    at (t .row-start .ensures .1) (c .before .before .row-means .ensures) in
     rows-part _ _ _ _ at (l .loop .inv) (t .before .loop-test .taken) row
 
 same-length : tie.Need-same-length Inv-loop μ-loop
@@ -85,15 +87,15 @@ blur-rows-spec =
     loop-holds
     row-start-requires
     add-j
-    mul-mean-row
-    sub-mean-row
-    part-mean-row-start
-    part-mean-row-end
-    mul-mean-row-2
-    sub-mean-row-2
-    part-mean-row-start-2
-    part-mean-row-end-2
-    mean-row-requires
+    mul-row-means
+    sub-row-means
+    part-row-means-start
+    part-row-means-end
+    mul-row-means-2
+    sub-row-means-2
+    part-row-means-start-2
+    part-row-means-end-2
+    row-means-requires
     add-y
     loop-less
     loop-again

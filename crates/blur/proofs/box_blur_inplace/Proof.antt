@@ -3,7 +3,8 @@ use mathlib.Core.Path.{_≡_, sym, ap, _∙_}
 use lib.ListN.{length}
 use borrow.Author.Needs.{needs}
 use mathlib.Core.Bool.{true}
-use Rattle.blur.specs.Blur.{mapFits, blurFits}
+use Rattle.means.specs.Means.{mapFits}
+use Rattle.blur.specs.Blur.{blurFits}
 use Rattle.blur.proofs.Fits.{maps-fitting}
 use Rattle.blur.proofs.box_blur_inplace.Statement.{statement}
 use Rattle.blur.proofs.box_blur_inplace.Tie as tie

@@ -106,8 +106,8 @@ returns-2 c =
     let j = z .before .before in
     let o = start j .args in
     let list = c .before .before .detect-peaks-from-radon in
-    when-accepted (now (o .img)) (o .w) (o .h) (o .p) (given j) (room-is j) (j .judge-finder-call .ensures) (z .before .number .ensures) (z .if1 .left)
-    (m .radon-response-u8 .ensures .0) (m .radon-response-u8 .ensures .1) (list .ensures .0) (list .ensures .1)
+    when-accepted (now (o .img)) (o .w) (o .h) (o .p) (given j) (room-is j) (j .judge-finder-call .ensures)
+    (z .before .number .ensures) (z .if1 .left) (m .radon-response-u8 .ensures .0) (m .radon-response-u8 .ensures .1) (list .ensures .0) (list .ensures .1)
 
 pub radon-corners-u8-spec : {M : Type 1} → statement M
 radon-corners-u8-spec =
