@@ -17,7 +17,7 @@ fn main() {
         return;
     };
     let mut list = [0.0f32; 768];
-    let outcome = frame_runner::answer(&input, got, &mut list);
+    let outcome = program::answer(&input, got, &mut list);
     if !print(outcome, &list) {
         os::fail(b"corners: standard output");
     }

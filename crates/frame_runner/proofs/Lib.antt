@@ -1,4 +1,2 @@
--- What the functions' proofs cite, and what a program's proofs cite of a printed line.
+-- What the function's proof cites.
 pub mod Cases
-pub mod Within
-pub mod SameLines

@@ -1,3 +1,2 @@
--- What a frame file is answered, and what the program prints for it.
+-- What a frame file is answered.
 pub mod FileAnswer
-pub mod Program

@@ -74,7 +74,7 @@ fn record(s: &[u8], at: usize) -> Compared {
 // The list of a file, with the program's room.
 fn found(file: &[u8], s: &[u8], at: usize) -> Compared {
     let mut list = [0.0f32; 768];
-    let outcome = frame_runner::run_with_room(file, &mut list);
+    let outcome = program::run_with_room(file, &mut list);
     let first = sides(outcome, s, at);
     let many = replay::capped(replay::word(s, replay::skip(s, at, 8)), MOST);
     then(

@@ -69,7 +69,7 @@ fn answered(file: &[u8], text: &[u8]) -> Compared {
     let mut input = [0u8; 2325];
     let got = put(file, &mut input);
     let mut list = [0.0f32; 768];
-    let outcome = frame_runner::answer(&input, got, &mut list);
+    let outcome = program::answer(&input, got, &mut list);
     printed(outcome, &list, text, replay::gaussian(file))
 }
 

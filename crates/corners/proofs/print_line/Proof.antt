@@ -2,7 +2,7 @@
 use mathlib.Core.Path.{sym}
 use lib.Seq.{length-take-le}
 use borrow.Author.Needs.{needs}
-use Rattle.frame_runner.proofs.Within.{within}
+use Rattle.program.proofs.Within.{within}
 use Rattle.corners.proofs.print_line.Statement.{statement}
 use Rattle.corners.proofs.print_line.Tie as tie
 

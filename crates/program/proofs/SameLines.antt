@@ -24,8 +24,8 @@ use Rattle.response.specs.Map.{roomOf}
 use Rattle.radon.specs.Finder.{Buffers, answered, outcomeOf, buffersOf}
 use Rattle.radon.proofs.Left.{left-is}
 use Rattle.radon.proofs.Demands.{refusal-leaves-all, same-answer, same-list, list-is-corners}
 use Rattle.frame_runner.specs.FileAnswer.{limit, outcomeFor, fileOutcome, buffersFor, fileBuffers}
-use Rattle.frame_runner.specs.Program.{blank, linesOver, linesOf}
+use Rattle.program.specs.Program.{blank, linesOver, linesOf}
 
 -- ---- the lines of a list: they are those of the numbers that are stored
 

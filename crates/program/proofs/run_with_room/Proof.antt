@@ -1,10 +1,10 @@
--- `frame_runner::run_with_room` meets its contract: the work buffers are zeros by definition. Assumes nothing.
+-- `program::run_with_room` meets its contract: the work buffers are zeros by definition. Assumes nothing.
 use mathlib.Core.Path.{ap}
 use borrow.Author.Needs.{needs}
 use Rattle.radon.specs.Finder.{Buffers}
-use Rattle.frame_runner.specs.Program.{blank}
-use Rattle.frame_runner.proofs.run_with_room.Statement.{statement}
-use Rattle.frame_runner.proofs.run_with_room.Tie as tie
+use Rattle.program.specs.Program.{blank}
+use Rattle.program.proofs.run_with_room.Statement.{statement}
+use Rattle.program.proofs.run_with_room.Tie as tie
 
 -- from the end back to the call
 abbrev called : tie.After-slice-known2 → tie.After-run-frame-file

@@ -1,9 +1,9 @@
--- `frame_runner::answer` meets its contract: what was read is run, and the lines are those of the file. Assumes nothing.
+-- `program::answer` meets its contract: what was read is run, and the lines are those of the file. Assumes nothing.
 use denote.Ref.{now}
 use borrow.Author.Needs.{needs}
-use Rattle.frame_runner.proofs.SameLines.{as-read}
-use Rattle.frame_runner.proofs.answer.Statement.{statement}
-use Rattle.frame_runner.proofs.answer.Tie as tie
+use Rattle.program.proofs.SameLines.{as-read}
+use Rattle.program.proofs.answer.Statement.{statement}
+use Rattle.program.proofs.answer.Tie as tie
 
 -- the way back to what was read, and to the start
 abbrev found : tie.After-run-with-room → tie.After-first

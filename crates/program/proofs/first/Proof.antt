@@ -1,10 +1,10 @@
--- `frame_runner::first` meets its contract: the first bytes, or all of them where there are no more. Assumes nothing.
+-- `program::first` meets its contract: the first bytes, or all of them where there are no more. Assumes nothing.
 use mathlib.Core.Path.{sym}
 use borrow.Author.Needs.{needs}
 use lib.Seq.{length-take-le, take-all}
 use native.Mathlib.Nat.{le-of-lt}
-use Rattle.frame_runner.proofs.first.Statement.{statement}
-use Rattle.frame_runner.proofs.first.Tie as tie
+use Rattle.program.proofs.first.Statement.{statement}
+use Rattle.program.proofs.first.Tie as tie
 
 slice-aggregate-result : tie.Need-slice-aggregate-result
 slice-aggregate-result c = sym (length-take-le _ _ (le-of-lt (c .before .if1 .taken)))
