@@ -10,11 +10,11 @@ fits-requires c κs = search needs
 
 returns : tie.Need-returns
 unfolding mapFits
-returns c = rw (le-leb _ _ (c .before .if1 .taken)) (c .fits2 .ensures)
+returns c = rw (le-leb _ 3 (c .before .if1 .taken)) (c .fits2 .ensures)
 
 returns-2 : tie.Need-returns-2
 unfolding mapFits
-returns-2 c = rw (lt-leb _ _ (c .if1 .left))
+returns-2 c = rw (lt-leb _ 3 (c .if1 .left))
 
 pub map-fits-spec : {M : Type 1} → statement M
 map-fits-spec = tie.close (tie.spec fits-requires returns returns-2)
