@@ -1,4 +1,3 @@
--- What the functions' proofs cite, and what a program's proofs cite of a printed line.
+-- What the functions' proofs cite.
 pub mod Cases
-pub mod Within
 pub mod SameLines

@@ -3,7 +3,7 @@ ghost use mathlib.Core.Path.{_≡_};
 ghost use mathlib.Core.List.{List};
 ghost use Prim.Native.Nat.{ℕ};
 ghost use lib.ListN.{length, take};
-ghost use Rattle.frame.specs.Printed.{printed};
+ghost use Rattle.lines.specs.Printed.{printed};
 ghost use Rattle.radon.specs.Finder.{lent};
 ghost use Rattle.frame_runner.specs.FileAnswer.{fileOutcome, fileBuffers};
 ghost use Rattle.frame_runner.specs.Program.{blank, linesOf};

@@ -94,7 +94,7 @@ fn copy(file: &[u8], input: &mut [u8]) -> usize
 
 // Every line, and that the text ends with the last.
 fn printed(outcome: Outcome, list: &[f32; 768], text: &[u8], gaussian: bool) -> Compared {
-    let many = frame::lines(outcome, list);
+    let many = lines::lines(outcome, list);
     let mut wrong: usize = 0;
     let mut places: usize = 0;
     let mut next: usize = 0;
@@ -122,7 +122,7 @@ fn line(
     at: usize,
     gaussian: bool,
 ) -> Compared {
-    let line = frame::line_at(outcome, list, i);
+    let line = lines::line_at(outcome, list, i);
     let bytes = line.bytes;
     let len = line.len;
     let next = replay::skip(text, at, len);
