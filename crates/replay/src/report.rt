@@ -1,8 +1,8 @@
 // What is told of a replay, on standard output.
-use crate::after_line;
-use crate::part;
 use crate::walk::Walk;
 use libc::STDOUT_FILENO;
+use vectors::after_line;
+use vectors::part;
 
 // The list's own line, the number of records, and how many disagree.
 pub fn head(s: &[u8], w: Walk) {
