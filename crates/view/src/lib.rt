@@ -2,11 +2,7 @@
 ghost use mathlib.Core.Path.{_≡_};
 ghost use Prim.Native.Nat.{_*_};
 ghost use lib.Dec.{leb};
-ghost use lib.ListN.{length};
-ghost use Rattle.detect.specs.Detected.{peaksOutcome, listOf};
 ghost use Rattle.view.specs.View.{viewOf, rowInside, placeAt, Row};
-use params::Outcome;
-use params::RadonDetectorParams;
 
 // What stands at a place of the map.
 pub enum Place {
@@ -153,18 +149,4 @@ pub fn read_row<'a>(response: &'a [f32], image: &'a [u8], w: usize, h: usize, y:
     ensures { λ r. ⌜ Row (response .entry) (now (image .entry)) w h y r ⌝ }
 {
     RadonResponseView::new(response, image, w, h).row(y)
-}
-
-// The corners of a map that is viewed, three numbers a corner: x and y in input pixels, strength.
-pub fn detect_peaks_from_radon<'a, 'l>(
-    resp: RadonResponseView<'a>,
-    params: RadonDetectorParams,
-    list: &'l mut [f32],
-) -> Outcome
-    ensures answer { λ r. ⌜ r ≡ peaksOutcome params (resp .entry .w) (resp .entry .h)
-        (now (resp .entry .«data»)) (now (resp .entry .image)) (length (now (list .entry))) ⌝ }
-    ensures written { λ _. ⌜ now (list .exit) ≡ listOf params (resp .entry .w) (resp .entry .h)
-        (now (resp .entry .«data»)) (now (resp .entry .image)) (now (list .entry)) ⌝ }
-{
-    detect::detect_peaks_from_radon(resp.data, resp.image, resp.w, resp.h, params, list)
 }

@@ -1,4 +1,4 @@
--- `view::detect_peaks_from_radon` meets its contract: a walk of its MIR, by hand. The view is taken apart and the function over slices is
+-- `view_list::detect_peaks_from_radon` meets its contract: a walk of its MIR, by hand. The view is taken apart and the function over slices is
 -- called, of which only its contract is known. The list is lent on for good: what the callee says of its last entries is what is said here.
 -- Assumes nothing.
 use mathlib.Core.Path.{refl}
@@ -43,18 +43,18 @@ use Rattle.params.proofs.settings.RadonDetectorParams.Laws as Q′
 use Rattle.params.proofs.answers.Outcome as O
 use Rattle.params.proofs.answers.Outcome.Laws as O′
 use Rattle.params.specs.declared.answers.Outcome.{Outcome}
 use Rattle.view.specs.declared.RadonResponseView.{RadonResponseView}
 use Rattle.view.proofs.Copies.{copies, passes}
 use Rattle.view.proofs.Walk.{Called, Ensured, answers, met-with}
 use Rattle.view.proofs.Viewed.{ViewAt, Whole, mach, spelled, told, typed, handed, rejoined}
 use Rattle.view.proofs.RadonResponseView.Laws as T′
 use Rattle.detect.proofs.detect_peaks_from_radon as callee
 use Rattle.detect.proofs.detect_peaks_from_radon.Symbol as callee-def
 use Rattle.detect.proofs.detect_peaks_from_radon.Met as callee-thm
-use Rattle.view.proofs.detect_peaks_from_radon as peaks
-use Rattle.view.proofs.detect_peaks_from_radon.Key.{name}
-use Rattle.view.proofs.detect_peaks_from_radon.Statement as stated
-use Rattle.view.proofs.detect_peaks_from_radon.Code as code
+use Rattle.view_list.proofs.detect_peaks_from_radon as peaks
+use Rattle.view_list.proofs.detect_peaks_from_radon.Key.{name}
+use Rattle.view_list.proofs.detect_peaks_from_radon.Statement as stated
+use Rattle.view_list.proofs.detect_peaks_from_radon.Code as code
 
 -- of the view and the settings nothing has to be had at exit; the list is given up for good
 abbrev hs : Stays (peaks.ended .signature .params) (peaks.ended .kept)
