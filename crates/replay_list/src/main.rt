@@ -60,10 +60,10 @@ fn replayed(s: &[u8]) {
 }
 
 fn report(s: &[u8], walk: Walk, all: Compared) {
-    replay::head(s, walk);
-    replay::say(b"Gaussian places equal to the bit", all.equal);
-    replay::say(b"Gaussian places within 0.001", all.near);
-    replay::say(b"Gaussian places beyond", all.beyond);
+    tell::head(s, walk);
+    tell::say(b"Gaussian places equal to the bit", all.equal);
+    tell::say(b"Gaussian places within 0.001", all.near);
+    tell::say(b"Gaussian places beyond", all.beyond);
 }
 
 // A record: a file, and its list.

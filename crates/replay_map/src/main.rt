@@ -27,8 +27,8 @@ fn replayed(s: &[u8]) {
 }
 
 fn report(s: &[u8], walk: Walk, values: usize) {
-    replay::head(s, walk);
-    replay::say(b"values compared", values);
+    tell::head(s, walk);
+    tell::say(b"values compared", values);
 }
 
 // A record: a file, and what its map is.

@@ -42,10 +42,10 @@ fn replayed(s: &[u8]) {
 }
 
 fn report(s: &[u8], walk: Walk, exact: usize, lists: usize, places: usize) {
-    replay::head(s, walk);
-    replay::say(b"records that agree to the bit", exact);
-    replay::say(b"Gaussian lists in which places differ", lists);
-    replay::say(b"corners whose places differ there", places);
+    tell::head(s, walk);
+    tell::say(b"records that agree to the bit", exact);
+    tell::say(b"Gaussian lists in which places differ", lists);
+    tell::say(b"corners whose places differ there", places);
 }
 
 // 1 where nothing differs.

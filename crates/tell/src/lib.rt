@@ -1,6 +1,6 @@
 // What is told of a replay, on standard output.
-use crate::walk::Walk;
 use libc::STDOUT_FILENO;
+use replay::Walk;
 use vectors::after_line;
 use vectors::part;
 
