@@ -29,11 +29,13 @@ pub no-word : (s : List ℕ) (at : ℕ) → length s < at + 4 → noWord ≡ wor
 unfolding wordAt
 no-word s at h = rw (lt-leb (at + 4) (length s) h)
 
-pub word-found : (s : List ℕ) (at : ℕ) {a b c d : ℕ} → at + 4 ≤ length s
-    → a ≡ getD s at 0 → b ≡ getD s (at + 1) 0 → c ≡ getD s (at + 2) 0 → d ≡ getD s (at + 3) 0
-    → a * 16777216 + b * 65536 + c * 256 + d ≡ wordAt s at
+pub word-found : (s : List ℕ) (at : ℕ) {a b : ℕ} → at + 4 ≤ length s
+    → a ≡ getD s at 0 * 256 + getD s (at + 1) 0 → b ≡ getD s (at + 2) 0 * 256 + getD s (at + 2 + 1) 0
+    → a * 65536 + b ≡ wordAt s at
 unfolding wordAt
-word-found s at h p q r t = rw (le-leb (at + 4) (length s) h, p, q, r, t)
+word-found s at h p q =
+    let e : at + 2 + 1 ≡ at + 3 = omega arith in
+    rw (le-leb (at + 4) (length s) h, p, q, e) (omega arith)
 
 -- ---- a part
 

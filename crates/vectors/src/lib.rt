@@ -2,9 +2,9 @@
 // then records of big-endian numbers, as tools/judge/README.md says. No read goes past its end.
 ghost use mathlib.Core.Path.{_≡_};
 ghost use mathlib.Core.Bool.{cond};
-ghost use Prim.Native.Nat.{_+_, _≤_, min};
+ghost use Prim.Native.Nat.{_+_, _*_, _≤_, min};
 ghost use lib.Dec.{eqb, leb};
-ghost use lib.ListN.{length};
+ghost use lib.ListN.{length, getD};
 ghost use lib.Ieee.{binary32, toBits, ofBits};
 ghost use Rattle.vectors.specs.Vectors.{zeros, byteAt, wordAt, Part, afterLine, behindOf, floatOf, floatAt, entryAt};
 ghost use Rattle.vectors.specs.Counts.{sum, differs};
@@ -36,6 +36,14 @@ pub fn byte(s: &[u8], at: usize) -> u64
     if at < s.len() { wide(s[at]) } else { NO_BYTE }
 }
 
+// Two bytes that are there, the higher first.
+fn half(s: &[u8], at: usize) -> u64
+    requires { ⌜ at + 2 ≤ length (now s) ⌝ }
+    ensures { λ r. ⌜ (r ≡ getD (now (s .entry)) at 0 * 256 + getD (now (s .entry)) (at + 1) 0) × (r ≤ 65535) ⌝ }
+{
+    wide(s[at]) * 256 + wide(s[at + 1])
+}
+
 // The four bytes at a place as a number, the highest first.
 pub fn word(s: &[u8], at: usize) -> u64
     ensures value { λ r. ⌜ r ≡ wordAt (now (s .entry)) at ⌝ }
@@ -47,7 +55,7 @@ pub fn word(s: &[u8], at: usize) -> u64
     if s.len() - at < 4 {
         return NO_WORD;
     }
-    wide(s[at]) * 16777216 + wide(s[at + 1]) * 65536 + wide(s[at + 2]) * 256 + wide(s[at + 3])
+    half(s, at) * 65536 + half(s, at + 2)
 }
 
 // The place n bytes further, and the end at most.
