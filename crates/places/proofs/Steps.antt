@@ -12,8 +12,8 @@ use lib.Dec.{leb}
 use lib.ListN.{length, getD, take, drop}
 use lib.Ieee.{Float, nan}
 use Rattle.grid.proofs.Plane.{row-in}
-use Rattle.view.specs.declared.Place.the-variants.{Value, Outside}
-use Rattle.view.specs.View.{whole, rowInside, placeAt, rowAt, rowStart}
+use Rattle.places.specs.declared.Place.the-variants.{Value, Outside}
+use Rattle.places.specs.Places.{whole, rowInside, placeAt, rowAt, rowStart}
 
 -- two tests are one, if each holds where the other does
 same-test : (a m b n : ℕ) → (a ≤ m → b ≤ n) → (b ≤ n → a ≤ m) → leb a m ≡ leb b n

@@ -1,14 +1,14 @@
--- `view::row_at` meets its contract: a row inside ends within the response, and what is handed back lies there.
+-- `places::row_at` meets its contract: a row inside ends within the response, and what is handed back lies there.
 -- Assumes nothing.
 use mathlib.Core.Path.{sym, ap, _∙_}
 use Prim.Native.Nat.{_+_, _*_, _≤_}
 use native.Mathlib.Omega.{arith}
 use borrow.Author.Needs.{needs}
 use lib.ListN.{length}
-use Rattle.view.specs.View.{entryPtr}
-use Rattle.view.proofs.Steps.{row-ends, values-none, start-none, values-found, start-found}
-use Rattle.view.proofs.row_at.Statement.{statement}
-use Rattle.view.proofs.row_at.Tie as tie
+use Rattle.places.specs.Places.{entryPtr}
+use Rattle.places.proofs.Steps.{row-ends, values-none, start-none, values-found, start-found}
+use Rattle.places.proofs.row_at.Statement.{statement}
+use Rattle.places.proofs.row_at.Tie as tie
 
 -- the way back from the test, and what a row inside tells
 abbrev start : tie.After-row-inside → tie.Start

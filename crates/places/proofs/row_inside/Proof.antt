@@ -1,10 +1,10 @@
--- `view::row_inside` meets its contract: the row's number is a row's, and of two lengths the lesser decides.
+-- `places::row_inside` meets its contract: the row's number is a row's, and of two lengths the lesser decides.
 -- Assumes nothing.
 use borrow.Author.Needs.{needs}
 use native.Mathlib.Omega.{arith}
-use Rattle.view.proofs.Steps.{row-past, first-decides, second-decides}
-use Rattle.view.proofs.row_inside.Statement.{statement}
-use Rattle.view.proofs.row_inside.Tie as tie
+use Rattle.places.proofs.Steps.{row-past, first-decides, second-decides}
+use Rattle.places.proofs.row_inside.Statement.{statement}
+use Rattle.places.proofs.row_inside.Tie as tie
 
 returns : tie.Need-returns
 returns c = row-past _ _ _ _ _ (c .if1 .taken)

@@ -1,13 +1,13 @@
--- `view::place_at` meets its contract: each way out is a case of `placeAt`, and a row inside ends within the response.
+-- `places::place_at` meets its contract: each way out is a case of `placeAt`, and a row inside ends within the response.
 -- Assumes nothing.
 use mathlib.Core.Path.{sym, _∙_}
 use Prim.Native.Nat.{_+_, _*_, _≤_}
 use native.Mathlib.Omega.{arith}
 use borrow.Author.Needs.{needs}
 use lib.ListN.{length}
-use Rattle.view.proofs.Steps.{row-ends, place-past, place-none, place-found}
-use Rattle.view.proofs.place_at.Statement.{statement}
-use Rattle.view.proofs.place_at.Tie as tie
+use Rattle.places.proofs.Steps.{row-ends, place-past, place-none, place-found}
+use Rattle.places.proofs.place_at.Statement.{statement}
+use Rattle.places.proofs.place_at.Tie as tie
 
 -- the way back from the test, and what a row inside tells
 abbrev start : tie.After-row-inside → tie.Start

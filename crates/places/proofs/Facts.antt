@@ -8,8 +8,8 @@ use mathlib.Core.List.{List, []}
 use lib.ListN.{length, getD}
 use lib.Seq.{getD-take, getD-drop}
 use lib.Ieee.{Float, nan}
-use Rattle.view.specs.declared.Place.the-variants.{Value, Outside}
-use Rattle.view.specs.View.{whole, rowInside, placeAt, rowAt}
+use Rattle.places.specs.declared.Place.the-variants.{Value, Outside}
+use Rattle.places.specs.Places.{whole, rowInside, placeAt, rowAt}
 
 module _ (response : List Float) (image : List ℕ) (w h y : ℕ) where
   -- "If either slice is shorter than W·H, every place and row is outside."

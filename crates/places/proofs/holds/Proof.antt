@@ -1,10 +1,10 @@
--- `view::holds` meets its contract: no entries are always within, and otherwise the quotient says how many rows are.
+-- `places::holds` meets its contract: no entries are always within, and otherwise the quotient says how many rows are.
 -- Assumes nothing.
 use borrow.Author.Needs.{needs}
 use native.Mathlib.Omega.{arith}
-use Rattle.view.proofs.Steps.{none-fit, rows-fit}
-use Rattle.view.proofs.holds.Statement.{statement}
-use Rattle.view.proofs.holds.Tie as tie
+use Rattle.places.proofs.Steps.{none-fit, rows-fit}
+use Rattle.places.proofs.holds.Statement.{statement}
+use Rattle.places.proofs.holds.Tie as tie
 
 returns : tie.Need-returns
 returns c = none-fit (c .before .args .w) (c .before .args .h) (c .before .args .n) (c .if1 .taken)
