@@ -42,7 +42,7 @@ fn read(input: &mut [u8]) -> Input {
 
 // Every line, and true; or those before the first that cannot be written, and false.
 fn print(outcome: Outcome, list: &[f32; 768]) -> bool {
-    let many = frame::lines(outcome, list);
+    let many = lines::lines(outcome, list);
     let mut i = 0;
     while i < many {
         if !print_line(outcome, list, i) {
@@ -55,7 +55,7 @@ fn print(outcome: Outcome, list: &[f32; 768]) -> bool {
 
 // Whether the line was written.
 fn print_line(outcome: Outcome, list: &[f32; 768], i: usize) -> bool {
-    let line = frame::line_at(outcome, list, i);
+    let line = lines::line_at(outcome, list, i);
     let bytes = line.bytes;
     let len = line.len;
     io::write_all(STDOUT_FILENO, &bytes[..len])

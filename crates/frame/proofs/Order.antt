@@ -1,5 +1,5 @@
 -- The tests of `readOf` in their order: what one answers where it applies, and that the next is asked where it does
--- not. Assumes nothing.
+-- not; and the header of a file that passes them. Assumes nothing.
 use mathlib.Core.Path.{_≡_, refl, sym, ap, _∙_}
 use mathlib.Core.Bool.{Bool, true, false, not, cond}
 use mathlib.Core.List.{List}
@@ -7,6 +7,7 @@ use Prim.Native.Nat.{ℕ, _≤_, _<_}
 use native.Mathlib.Omega.{arith}
 use borrow.Author.Tests.{lt-ltb, le-ltb, eq-eqb, ne-eqb}
 use lib.Dec.{eqb}
+use lib.Ieee.{Float, binary32, ofBits}
 use lib.ListN.{length}
 use Rattle.params.specs.declared.answers.Answer.{Answer}
 use Rattle.params.specs.declared.answers.Answer.the-variants.{FileTooLong, FileTooShort}
@@ -19,7 +20,7 @@ use Rattle.frame.specs.declared.Reading.{Reading}
 use Rattle.frame.specs.declared.Reading.the-variants.{Frame, Refused}
 use Rattle.frame.specs.declared.fields.Field.{Field}
 use Rattle.frame.specs.declared.fields.Field.the-variants as number
-use Rattle.frame.specs.FrameFile.{byteAt, headerOf, withMode, headerRead, readOf}
+use Rattle.frame.specs.FrameFile.{byteAt, halfAt, wordAt, headerOf, withMode, headerRead, readOf}
 use Rattle.frame.specs.Fields.{held, refusalOf}
 
 -- ---- the file's length
@@ -81,3 +82,24 @@ module _ (file : List ℕ) {m : NumberedMode} (is : m ≡ modeNumbered (byteAt f
   pub mode-refused : {b r : Answer} → m ≡ numbered.Refused b → r ≡ modeRefusal m
       → Refused r ≡ withMode file (modeNumbered (byteAt file 12))
   mode-refused e h = rw (← is, e) (ap Refused (h ∙ ap modeRefusal e))
+
+-- ---- the header, of what its readers have read
+
+pub header-is : (file : List ℕ) (fit : PeakFitMode) {ray up blur nms least bits w h : ℕ} {t : Float}
+    → ray ≡ byteAt file 9 → up ≡ byteAt file 10 → blur ≡ byteAt file 11 → nms ≡ byteAt file 13 → least ≡ halfAt file 14
+    → bits ≡ wordAt file 16 → t ≡ ofBits binary32 bits → w ≡ halfAt file 5 → h ≡ halfAt file 7
+    → record {
+      width = w;
+      height = h;
+      params = record {
+        «ray_radius» = ray;
+        «image_upsample» = up;
+        «response_blur_radius» = blur;
+        «peak_fit» = fit;
+        «nms_radius» = nms;
+        «min_cluster_size» = least;
+        «threshold_rel» = t;
+      };
+    } ≡ headerOf file fit
+unfolding headerOf
+header-is file fit a b c d e f g h i = rw (a, b, c, d, e, g, f, h, i)

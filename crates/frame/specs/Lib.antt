@@ -1,5 +1,3 @@
--- The frame file and the printed lines, as document 01 has them.
+-- The frame file, as document 01 has it.
 pub mod FrameFile
 pub mod Fields
-pub mod Printed
-pub mod Lines

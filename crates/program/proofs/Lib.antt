@@ -1,3 +1,2 @@
--- What a program's proofs cite of a printed line, and that the lines are the file's alone.
-pub mod Within
+-- That the lines which a program prints are its file's alone.
 pub mod SameLines

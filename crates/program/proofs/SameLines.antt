@@ -19,7 +19,7 @@ use Rattle.params.specs.Answers.{numberOf, refused}
 use Rattle.frame.specs.declared.Reading.{Reading}
 use Rattle.frame.specs.declared.Reading.the-variants.{Frame, Refused}
 use Rattle.frame.specs.FrameFile.{readOf}
-use Rattle.frame.specs.Printed.{refusedLine, cornerLines, stored, printed}
+use Rattle.lines.specs.Printed.{refusedLine, cornerLines, stored, printed}
 use Rattle.response.specs.Map.{roomOf}
 use Rattle.radon.specs.Finder.{Buffers, answered, outcomeOf, buffersOf}
 use Rattle.radon.proofs.Left.{left-is}

@@ -4,7 +4,7 @@ use Prim.Native.Nat.{ℕ, _*_}
 use lib.ListN.{replicate}
 use lib.Ieee.{Float}
 use Rattle.float.specs.Values.{f0}
-use Rattle.frame.specs.Printed.{printed}
+use Rattle.lines.specs.Printed.{printed}
 use Rattle.radon.specs.Finder.{Buffers, lent}
 use Rattle.frame_runner.specs.FileAnswer.{fileOutcome, fileBuffers}
 

@@ -8,8 +8,8 @@ use lib.Ieee.{Float}
 use lib.ListN.{length}
 use Rattle.replay.specs.declared.entries.Compared.{Compared}
 use Rattle.replay.specs.declared.entries.Kind.{Kind}
-use Rattle.replay.specs.Vectors.{wordAt}
-use Rattle.replay.specs.Tallies.{sum, differs}
+use Rattle.vectors.specs.Vectors.{wordAt}
+use Rattle.vectors.specs.Counts.{sum, differs}
 use Rattle.replay.specs.Entries.{sizeOf, listedOf, entryOf, oneMore, comparedOf, sidesOf}
 
 -- i of n entries were compared

@@ -10,7 +10,8 @@ use lib.ListN.{length}
 use Rattle.sizes.proofs.Fitting.{both-true}
 use Rattle.replay.specs.declared.walk.Tally.{Tally}
 use Rattle.replay.specs.declared.walk.Walk.{Walk}
-use Rattle.replay.specs.Tallies.{sum, counted, onward, walked}
+use Rattle.vectors.specs.Counts.{sum}
+use Rattle.replay.specs.Tallies.{counted, onward, walked}
 
 module _ (t : Tally) (wrong : ℕ) {n : ℕ} (more : n ≡ sum (t .records) 1) where
   pub agrees : wrong ≡ 0 → _≡_ {A = Tally} (record { records = n; wrong = t .wrong; first = t .first }) (counted t wrong)

@@ -1,5 +1,3 @@
--- Laws of what the replay programs read, compare and count, over plain variables.
-pub mod Places
-pub mod Patterns
+-- Laws of what the replay programs compare and count, over plain variables.
 pub mod Counting
 pub mod Comparing

@@ -3,8 +3,8 @@ use mathlib.Core.List.{List}
 use Prim.Native.Nat.{ℕ, zero, suc, _+_, min}
 use lib.Ieee.{Float}
 use lib.ListN.{length}
-use Rattle.replay.specs.Vectors.{byteAt, wordAt, floatAt, entryAt}
-use Rattle.replay.specs.Tallies.{sum, differs}
+use Rattle.vectors.specs.Vectors.{byteAt, wordAt, floatAt, entryAt}
+use Rattle.vectors.specs.Counts.{sum, differs}
 use Rattle.replay.specs.declared.entries.Compared.{Compared}
 use Rattle.replay.specs.declared.entries.Kind.{Kind}
 use Rattle.replay.specs.declared.entries.Kind.the-variants.{Bytes, Words, Floats}

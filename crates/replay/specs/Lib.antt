@@ -1,4 +1,3 @@
--- What the replay programs read, compare and count.
-pub mod Vectors
+-- What the replay programs compare and count.
 pub mod Tallies
 pub mod Entries

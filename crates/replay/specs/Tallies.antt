@@ -1,22 +1,13 @@
--- How what agrees and what does not is counted, along the records of a list. No count goes over 2^32.
+-- How what agrees and what does not is counted, along the records of a list.
 use mathlib.Core.Bool.{Bool, cond, _&&_}
 use mathlib.Core.List.{List}
-use Prim.Native.Nat.{ℕ, _+_, _-_, min}
+use Prim.Native.Nat.{ℕ, _-_}
 use lib.Dec.{eqb, ltb}
 use lib.ListN.{length}
-use Rattle.replay.specs.Vectors.{afterLine}
+use Rattle.vectors.specs.Vectors.{afterLine}
+use Rattle.vectors.specs.Counts.{sum}
 use Rattle.replay.specs.declared.walk.Tally.{Tally}
 use Rattle.replay.specs.declared.walk.Walk.{Walk}
-
-abbrev pub most : ℕ
-most = 4294967296
-
-abbrev pub sum : ℕ → ℕ → ℕ
-sum a b = min (a + b) most
-
--- 1 where two numbers differ
-abbrev pub differs : ℕ → ℕ → ℕ
-differs a b = cond (eqb a b) 0 1
 
 abbrev pub none : Tally
 none = record { records = 0; wrong = 0; first = 0 }

@@ -1,11 +1,11 @@
 // Entries of a buffer against those of a list: bytes, words or floats.
-use crate::byte;
-use crate::differ;
-use crate::float_at;
-use crate::plus;
-use crate::skip;
-use crate::word;
-use crate::word_at;
+use vectors::byte;
+use vectors::differ;
+use vectors::float_at;
+use vectors::plus;
+use vectors::skip;
+use vectors::word;
+use vectors::word_at;
 ghost use mathlib.Core.Path.{_≡_};
 ghost use mathlib.Core.List.{[]};
 ghost use Rattle.replay.specs.Entries.{sizeOf, listedOf, entryOf, comparedOf, both, sidesOf};

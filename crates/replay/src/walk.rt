@@ -1,6 +1,6 @@
 // Along the records of a list: where the walk stands, and what was found so far.
-use crate::after_line;
-use crate::plus;
+use vectors::after_line;
+use vectors::plus;
 ghost use mathlib.Core.Path.{_≡_};
 ghost use mathlib.Core.Bool.{cond};
 ghost use lib.Dec.{eqb};

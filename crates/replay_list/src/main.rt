@@ -21,7 +21,7 @@ struct Compared {
 }
 
 fn main() {
-    let mut input = replay::room();
+    let mut input = vectors::room();
     let got = io::read_full(STDIN_FILENO, &mut input);
     replayed(&input[..got]);
 }
@@ -40,10 +40,10 @@ fn nothing(at: usize) -> Compared {
 fn then(a: Compared, b: Compared) -> Compared {
     Compared {
         next: b.next,
-        wrong: replay::plus(a.wrong, b.wrong),
-        equal: replay::plus(a.equal, b.equal),
-        near: replay::plus(a.near, b.near),
-        beyond: replay::plus(a.beyond, b.beyond),
+        wrong: vectors::plus(a.wrong, b.wrong),
+        equal: vectors::plus(a.equal, b.equal),
+        near: vectors::plus(a.near, b.near),
+        beyond: vectors::plus(a.beyond, b.beyond),
     }
 }
 
@@ -60,15 +60,15 @@ fn replayed(s: &[u8]) {
 }
 
 fn report(s: &[u8], walk: Walk, all: Compared) {
-    replay::head(s, walk);
-    replay::say(b"Gaussian places equal to the bit", all.equal);
-    replay::say(b"Gaussian places within 0.001", all.near);
-    replay::say(b"Gaussian places beyond", all.beyond);
+    tell::head(s, walk);
+    tell::say(b"Gaussian places equal to the bit", all.equal);
+    tell::say(b"Gaussian places within 0.001", all.near);
+    tell::say(b"Gaussian places beyond", all.beyond);
 }
 
 // A record: a file, and its list.
 fn record(s: &[u8], at: usize) -> Compared {
-    found(replay::sized(s, at), s, replay::behind(s, at))
+    found(vectors::sized(s, at), s, vectors::behind(s, at))
 }
 
 // The list of a file, with the program's room.
@@ -76,10 +76,10 @@ fn found(file: &[u8], s: &[u8], at: usize) -> Compared {
     let mut list = [0.0f32; 768];
     let outcome = program::run_with_room(file, &mut list);
     let first = sides(outcome, s, at);
-    let many = replay::capped(replay::word(s, replay::skip(s, at, 8)), MOST);
+    let many = vectors::capped(vectors::word(s, vectors::skip(s, at, 8)), MOST);
     then(
         first,
-        corners(&list, many, s, first.next, replay::gaussian(file)),
+        corners(&list, many, s, first.next, vectors::gaussian(file)),
     )
 }
 
@@ -93,10 +93,10 @@ fn sides(outcome: Outcome, s: &[u8], at: usize) -> Compared {
         outcome.w as u64,
         outcome.h as u64,
     );
-    let wrong = replay::differ(outcome.count as u64, replay::word(s, c.next));
+    let wrong = vectors::differ(outcome.count as u64, vectors::word(s, c.next));
     one(
-        replay::skip(s, c.next, 4),
-        replay::plus(c.wrong, wrong),
+        vectors::skip(s, c.next, 4),
+        vectors::plus(c.wrong, wrong),
         0,
         0,
         0,
@@ -116,25 +116,28 @@ fn corners(list: &[f32], count: usize, s: &[u8], at: usize, gaussian: bool) -> C
 
 // One corner: x, y and strength.
 fn corner(list: &[f32], i: usize, s: &[u8], at: usize, gaussian: bool) -> Compared {
-    let next = replay::skip(s, at, 12);
+    let next = vectors::skip(s, at, 12);
     if i >= MOST {
         return one(next, 1, 0, 0, 0);
     }
-    let y = replay::skip(s, at, 4);
-    let strength = replay::skip(s, at, 8);
-    let wrong = replay::differ(replay::float_at(list, 3 * i + 2), replay::word(s, strength));
-    let places = replay::plus(
-        replay::differ(replay::float_at(list, 3 * i), replay::word(s, at)),
-        replay::differ(replay::float_at(list, 3 * i + 1), replay::word(s, y)),
+    let y = vectors::skip(s, at, 4);
+    let strength = vectors::skip(s, at, 8);
+    let wrong = vectors::differ(
+        vectors::float_at(list, 3 * i + 2),
+        vectors::word(s, strength),
+    );
+    let places = vectors::plus(
+        vectors::differ(vectors::float_at(list, 3 * i), vectors::word(s, at)),
+        vectors::differ(vectors::float_at(list, 3 * i + 1), vectors::word(s, y)),
     );
     if !gaussian {
-        return one(next, replay::plus(wrong, places), 0, 0, 0);
+        return one(next, vectors::plus(wrong, places), 0, 0, 0);
     }
     if places == 0 {
         return one(next, wrong, 1, 0, 0);
     }
-    if close(replay::float_at(list, 3 * i), replay::word(s, at))
-        && close(replay::float_at(list, 3 * i + 1), replay::word(s, y))
+    if close(vectors::float_at(list, 3 * i), vectors::word(s, at))
+        && close(vectors::float_at(list, 3 * i + 1), vectors::word(s, y))
     {
         return one(next, wrong, 0, 1, 0);
     }
@@ -153,7 +156,7 @@ fn one(next: usize, wrong: usize, equal: usize, near: usize, beyond: usize) -> C
 
 // Whether the floats of two bit patterns are within the distance; no NaN is.
 fn close(a: u64, b: u64) -> bool {
-    let x = replay::float(a);
-    let y = replay::float(b);
+    let x = vectors::float(a);
+    let y = vectors::float(b);
     if x < y { y - x <= NEAR } else { x - y <= NEAR }
 }

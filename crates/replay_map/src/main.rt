@@ -9,7 +9,7 @@ use response::Mapped;
 const LIMIT: usize = 2324;
 
 fn main() {
-    let mut input = replay::room();
+    let mut input = vectors::room();
     let got = io::read_full(STDIN_FILENO, &mut input);
     replayed(&input[..got]);
 }
@@ -21,19 +21,19 @@ fn replayed(s: &[u8]) {
     while replay::more(s, walk) {
         let c = record(s, walk.next);
         walk = replay::after(walk, c.next, c.wrong);
-        values = replay::plus(values, c.values);
+        values = vectors::plus(values, c.values);
     }
     report(s, walk, values);
 }
 
 fn report(s: &[u8], walk: Walk, values: usize) {
-    replay::head(s, walk);
-    replay::say(b"values compared", values);
+    tell::head(s, walk);
+    tell::say(b"values compared", values);
 }
 
 // A record: a file, and what its map is.
 fn record(s: &[u8], at: usize) -> Compared {
-    mapped(replay::sized(s, at), s, replay::behind(s, at))
+    mapped(vectors::sized(s, at), s, vectors::behind(s, at))
 }
 
 // The map of a file, over the program's buffers.
@@ -91,8 +91,8 @@ fn against(
 ) -> Compared {
     let answer = map.answer;
     let n = area(
-        replay::word(s, at) as usize,
-        replay::word(s, replay::skip(s, at, 4)) as usize,
+        vectors::word(s, at) as usize,
+        vectors::word(s, vectors::skip(s, at, 4)) as usize,
     );
     let c = replay::sides(s, at, answer.number() as u64, map.w as u64, map.h as u64);
     let c = replay::then(c, replay::bytes(s, c.next, working, n));
@@ -101,8 +101,8 @@ fn against(
     let c = replay::then(c, replay::words(s, c.next, falling, n));
     let c = replay::then(c, replay::words(s, c.next, rising, n));
     let c = replay::then(c, replay::floats(s, c.next, response, n));
-    let blurred = replay::word(s, c.next);
-    let next = replay::skip(s, c.next, 4);
+    let blurred = vectors::word(s, c.next);
+    let next = vectors::skip(s, c.next, 4);
     replay::then(c, replay::floats(s, next, scratch, where_one(blurred, n)))
 }
 

@@ -20,7 +20,7 @@ struct Compared {
 }
 
 fn main() {
-    let mut input = replay::room();
+    let mut input = vectors::room();
     let got = io::read_full(STDIN_FILENO, &mut input);
     replayed(&input[..got]);
 }
@@ -34,18 +34,18 @@ fn replayed(s: &[u8]) {
     while replay::more(s, walk) {
         let c = record(s, walk.next);
         walk = replay::after(walk, c.next, c.wrong);
-        exact = replay::plus(exact, whole(c.wrong, c.places));
-        lists = replay::plus(lists, replay::differ(c.places as u64, 0));
-        places = replay::plus(places, c.places);
+        exact = vectors::plus(exact, whole(c.wrong, c.places));
+        lists = vectors::plus(lists, vectors::differ(c.places as u64, 0));
+        places = vectors::plus(places, c.places);
     }
     report(s, walk, exact, lists, places);
 }
 
 fn report(s: &[u8], walk: Walk, exact: usize, lists: usize, places: usize) {
-    replay::head(s, walk);
-    replay::say(b"records that agree to the bit", exact);
-    replay::say(b"Gaussian lists in which places differ", lists);
-    replay::say(b"corners whose places differ there", places);
+    tell::head(s, walk);
+    tell::say(b"records that agree to the bit", exact);
+    tell::say(b"Gaussian lists in which places differ", lists);
+    tell::say(b"corners whose places differ there", places);
 }
 
 // 1 where nothing differs.
@@ -55,10 +55,10 @@ fn whole(wrong: usize, places: usize) -> usize {
 
 // A record: a file, and a text.
 fn record(s: &[u8], at: usize) -> Compared {
-    let text = replay::behind(s, at);
-    let c = answered(replay::sized(s, at), replay::sized(s, text));
+    let text = vectors::behind(s, at);
+    let c = answered(vectors::sized(s, at), vectors::sized(s, text));
     Compared {
-        next: replay::behind(s, text),
+        next: vectors::behind(s, text),
         wrong: c.wrong,
         places: c.places,
     }
@@ -70,7 +70,7 @@ fn answered(file: &[u8], text: &[u8]) -> Compared {
     let got = put(file, &mut input);
     let mut list = [0.0f32; 768];
     let outcome = program::answer(&input, got, &mut list);
-    printed(outcome, &list, text, replay::gaussian(file))
+    printed(outcome, &list, text, vectors::gaussian(file))
 }
 
 // Puts as much of a file into the array as reading it would, and answers how many bytes that is.
@@ -94,21 +94,21 @@ fn copy(file: &[u8], input: &mut [u8]) -> usize
 
 // Every line, and that the text ends with the last.
 fn printed(outcome: Outcome, list: &[f32; 768], text: &[u8], gaussian: bool) -> Compared {
-    let many = frame::lines(outcome, list);
+    let many = lines::lines(outcome, list);
     let mut wrong: usize = 0;
     let mut places: usize = 0;
     let mut next: usize = 0;
     let mut i: usize = 0;
     while i < many {
         let c = line(outcome, list, i, text, next, gaussian);
-        wrong = replay::plus(wrong, c.wrong);
-        places = replay::plus(places, c.places);
+        wrong = vectors::plus(wrong, c.wrong);
+        places = vectors::plus(places, c.places);
         next = c.next;
         i += 1;
     }
     Compared {
         next,
-        wrong: replay::plus(wrong, replay::differ(next as u64, text.len() as u64)),
+        wrong: vectors::plus(wrong, vectors::differ(next as u64, text.len() as u64)),
         places,
     }
 }
@@ -122,11 +122,11 @@ fn line(
     at: usize,
     gaussian: bool,
 ) -> Compared {
-    let line = frame::line_at(outcome, list, i);
+    let line = lines::line_at(outcome, list, i);
     let bytes = line.bytes;
     let len = line.len;
-    let next = replay::skip(text, at, len);
-    if check::same(replay::part(&bytes, 0, len), replay::part(text, at, next)) {
+    let next = vectors::skip(text, at, len);
+    if check::same(vectors::part(&bytes, 0, len), vectors::part(text, at, next)) {
         return Compared {
             next,
             wrong: 0,
@@ -134,10 +134,10 @@ fn line(
         };
     }
     if gaussian && i > 0 && len == CORNER {
-        let from = replay::skip(text, at, STRENGTH);
+        let from = vectors::skip(text, at, STRENGTH);
         if check::same(
-            replay::part(&bytes, STRENGTH, len),
-            replay::part(text, from, next),
+            vectors::part(&bytes, STRENGTH, len),
+            vectors::part(text, from, next),
         ) {
             return Compared {
                 next,

@@ -39,12 +39,12 @@ fn main() {
 
 // The roots, then the logarithms, each after the number of them.
 fn replayed(s: &[u8]) {
-    let roots = replay::after_line(s);
+    let roots = vectors::after_line(s);
     let many_roots = count(s, roots);
-    let first_root = replay::skip(s, roots, 4);
-    let logs = replay::skip(s, first_root, 8 * many_roots);
+    let first_root = vectors::skip(s, roots, 4);
+    let logs = vectors::skip(s, first_root, 8 * many_roots);
     let many_logs = count(s, logs);
-    let first_log = replay::skip(s, logs, 4);
+    let first_log = vectors::skip(s, logs, 4);
     report(
         b"roots that agree:",
         many_roots,
@@ -66,7 +66,7 @@ fn replayed(s: &[u8]) {
 fn count(s: &[u8], at: usize) -> usize
     ensures { λ r. ⌜ r ≤ 4096 ⌝ }
 {
-    replay::capped(replay::word(s, at), MOST)
+    vectors::capped(vectors::word(s, at), MOST)
 }
 
 // Compares as many records of one kind as there are, from a place on.
@@ -78,11 +78,11 @@ fn counted(s: &[u8], kind: Kind, from: usize, many: usize) -> Tally {
     let mut i: usize = 0;
     while i < many {
         if agrees(s, kind, at) {
-            agree = replay::plus(agree, 1);
+            agree = vectors::plus(agree, 1);
         } else {
             first = sizes::lesser(first, i);
         }
-        at = replay::skip(s, at, size);
+        at = vectors::skip(s, at, size);
         i += 1;
     }
     Tally { agree, first }
@@ -97,10 +97,10 @@ fn size_of(kind: Kind) -> usize {
 }
 
 fn agrees(s: &[u8], kind: Kind, at: usize) -> bool {
-    let x = replay::word(s, at);
-    let expected = replay::word(s, replay::skip(s, at, 4));
-    let high = replay::word(s, replay::skip(s, at, 8));
-    let low = replay::word(s, replay::skip(s, at, 12));
+    let x = vectors::word(s, at);
+    let expected = vectors::word(s, vectors::skip(s, at, 4));
+    let high = vectors::word(s, vectors::skip(s, at, 8));
+    let low = vectors::word(s, vectors::skip(s, at, 12));
     match kind {
         Kind::Root => root_bits(x) == expected,
         Kind::Log => log_bits(x) == expected,
@@ -154,15 +154,15 @@ fn units(bits: u64) -> u64 {
 
 // The pattern of the root, or of the logarithm, of the number with the pattern x.
 fn root_bits(x: u64) -> u64 {
-    match scalar::sqrt(replay::float(x)) {
-        Root::Value(y) => replay::bits(y),
+    match scalar::sqrt(vectors::float(x)) {
+        Root::Value(y) => vectors::bits(y),
         Root::Outside => OUTSIDE,
     }
 }
 
 fn log_bits(x: u64) -> u64 {
-    match scalar::ln(replay::float(x)) {
-        Log::Value(y) => replay::bits(y),
+    match scalar::ln(vectors::float(x)) {
+        Log::Value(y) => vectors::bits(y),
         Log::Outside => OUTSIDE,
     }
 }

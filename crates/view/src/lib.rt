@@ -1,18 +1,10 @@
 // The view of the map: the response and the working image where they were lent, with the map's sides.
 ghost use mathlib.Core.Path.{_≡_};
-ghost use Prim.Native.Nat.{_*_};
-ghost use lib.Dec.{leb};
-ghost use lib.ListN.{length};
-ghost use Rattle.detect.specs.Detected.{peaksOutcome, listOf};
-ghost use Rattle.view.specs.View.{viewOf, rowInside, placeAt, Row};
-use params::Outcome;
-use params::RadonDetectorParams;
-
-// What stands at a place of the map.
-pub enum Place {
-    Value(f32),
-    Outside,
-}
+ghost use Rattle.places.specs.Places.{placeAt, Row};
+ghost use Rattle.view.specs.View.{viewOf};
+pub use places::Place;
+pub use places::place_at;
+pub use places::row_at;
 
 // The response at working resolution and the working image that it was computed from, both lent.
 pub struct RadonResponseView<'a> {
@@ -22,62 +14,7 @@ pub struct RadonResponseView<'a> {
     pub h: usize,
 }
 
-// Whether h rows of w entries are within n. The product may be too large to compute.
-fn holds(n: usize, w: usize, h: usize) -> bool
-    ensures { λ r. ⌜ r ≡ leb (w * h) n ⌝ }
-{
-    if w == 0 {
-        return true;
-    }
-    h <= n / w
-}
-
-// Whether row y is a row of the map, in slices of these lengths. The shorter slice decides.
-fn row_inside(response: usize, image: usize, w: usize, h: usize, y: usize) -> bool
-    ensures { λ r. ⌜ r ≡ rowInside response image w h y ⌝ }
-{
-    if y >= h {
-        return false;
-    }
-    if response < image {
-        return holds(response, w, h);
-    }
-    holds(image, w, h)
-}
-
-// The response at column x of row y.
-pub fn place_at(response: &[f32], image: &[u8], w: usize, h: usize, x: usize, y: usize) -> Place
-    ensures { λ r. ⌜ r ≡ placeAt (now (response .entry)) (now (image .entry)) w h x y ⌝ }
-{
-    if x >= w {
-        return Place::Outside;
-    }
-    if row_inside(response.len(), image.len(), w, h, y) {
-        return Place::Value(response[y * w + x]);
-    }
-    Place::Outside
-}
-
-// Row y: that part of the response itself.
-pub fn row_at<'a, 'b>(
-    response: &'a [f32],
-    image: &'b [u8],
-    w: usize,
-    h: usize,
-    y: usize,
-) -> &'a [f32]
-    ensures { λ r. ⌜ Row (response .entry) (now (image .entry)) w h y r ⌝ }
-{
-    let entries = response.len();
-    if row_inside(entries, image.len(), w, h, y) {
-        let start = y * w;
-        let end = start + w;
-        return &response[start..end];
-    }
-    &response[0..0]
-}
-
-// Each function over the view takes it apart; the work is done above, over slices and numbers.
+// Each function over the view takes it apart; the work is done over slices and numbers, in `places`.
 impl<'a> RadonResponseView<'a> {
     // The view of what is lent.
     pub fn new(response: &'a [f32], image: &'a [u8], w: usize, h: usize) -> RadonResponseView<'a>
@@ -153,18 +90,4 @@ pub fn read_row<'a>(response: &'a [f32], image: &'a [u8], w: usize, h: usize, y:
     ensures { λ r. ⌜ Row (response .entry) (now (image .entry)) w h y r ⌝ }
 {
     RadonResponseView::new(response, image, w, h).row(y)
-}
-
-// The corners of a map that is viewed, three numbers a corner: x and y in input pixels, strength.
-pub fn detect_peaks_from_radon<'a, 'l>(
-    resp: RadonResponseView<'a>,
-    params: RadonDetectorParams,
-    list: &'l mut [f32],
-) -> Outcome
-    ensures answer { λ r. ⌜ r ≡ peaksOutcome params (resp .entry .w) (resp .entry .h)
-        (now (resp .entry .«data»)) (now (resp .entry .image)) (length (now (list .entry))) ⌝ }
-    ensures written { λ _. ⌜ now (list .exit) ≡ listOf params (resp .entry .w) (resp .entry .h)
-        (now (resp .entry .«data»)) (now (resp .entry .image)) (now (list .entry)) ⌝ }
-{
-    detect::detect_peaks_from_radon(resp.data, resp.image, resp.w, resp.h, params, list)
 }

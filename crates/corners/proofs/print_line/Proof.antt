@@ -2,7 +2,6 @@
 use mathlib.Core.Path.{sym}
 use lib.Seq.{length-take-le}
 use borrow.Author.Needs.{needs}
-use Rattle.program.proofs.Within.{within}
 use Rattle.corners.proofs.print_line.Statement.{statement}
 use Rattle.corners.proofs.print_line.Tie as tie
 
@@ -10,10 +9,10 @@ line-at-requires : tie.Need-line-at-requires
 line-at-requires c κs = search needs
 
 array-share-prefix-bytes : tie.Need-array-share-prefix-bytes
-array-share-prefix-bytes c = within (c .before .line-at .ensures)
+array-share-prefix-bytes c = c .before .line-at .ensures .fits
 
 slice-aggregate-write-all : tie.Need-slice-aggregate-write-all
-slice-aggregate-write-all c = sym (length-take-le _ _ (within (c .before .before .line-at .ensures)))
+slice-aggregate-write-all c = sym (length-take-le _ _ (c .before .before .line-at .ensures .fits))
 
 write-all-requires : tie.Need-write-all-requires
 write-all-requires c κs = search needs

@@ -1,6 +1,6 @@
 -- `frame::header_of` meets its contract: each field is what its reader ensures. Assumes nothing.
 use borrow.Author.Needs.{needs}
-use Rattle.frame.specs.FrameFile.{headerOf}
+use Rattle.frame.proofs.Order.{header-is}
 use Rattle.frame.proofs.header_of.Statement.{statement}
 use Rattle.frame.proofs.header_of.Tie as tie
 
@@ -38,8 +38,17 @@ cast-t12 : tie.Need-cast-t12
 cast-t12 c = search needs
 
 returns : tie.Need-returns
-unfolding headerOf
-returns c = cc
+returns c =
+    let w = c .before in
+    let t = w .before in
+    let bits = t .before in
+    let least = bits .before in
+    let nms = least .before in
+    let blur = nms .before in
+    let up = blur .before in
+    let ray = up .before in
+    header-is _ _ (ray .byte .ensures .0) (up .byte2 .ensures .0) (blur .byte3 .ensures .0) (nms .byte4 .ensures .0)
+    (least .half .ensures .0) (bits .word .ensures) (t .float .ensures) (w .half2 .ensures .0) (c .half3 .ensures .0)
 
 pub header-of-spec : {M : Type 1} → statement M
 header-of-spec =

@@ -32,15 +32,16 @@ use denote.Triple.Entry.{onEntry}
 use denote.Triple.Spec.{tripleOf}
 use denote.Triple.Table.{cited}
 use denote.Triple.Walked.{walkOf}
-use Rattle.view.specs.View.{viewOf, placeAt}
+use Rattle.places.specs.Places.{placeAt}
+use Rattle.view.specs.View.{viewOf}
 use Rattle.view.specs.declared.RadonResponseView.{RadonResponseView}
-use Rattle.view.specs.declared.Place.{Place}
+use Rattle.places.specs.declared.Place.{Place}
 use Rattle.view.proofs.Copies.{passes}
 use Rattle.view.proofs.Walk.{gone, ends, answered, met}
 use Rattle.view.proofs.Viewed.{ViewAt, Token}
 use Rattle.view.proofs.Lent.{lent, New, in-local, to-new, new-asks, new-known, makes}
-use Rattle.view.proofs.Place as P
-use Rattle.view.proofs.Place.Laws as P′
+use Rattle.places.proofs.Place as P
+use Rattle.places.proofs.Place.Laws as P′
 use Rattle.view.proofs.RadonResponseView.new.Symbol as new-def
 use Rattle.view.proofs.RadonResponseView.at as at
 use Rattle.view.proofs.RadonResponseView.at.Symbol as at-def

@@ -31,7 +31,8 @@ use denote.Triple.Entry.{onEntry}
 use denote.Triple.Spec.{tripleOf}
 use denote.Triple.Table.{cited}
 use denote.Triple.Walked.{walkOf}
-use Rattle.view.specs.View.{viewOf, Row}
+use Rattle.places.specs.Places.{Row}
+use Rattle.view.specs.View.{viewOf}
 use Rattle.view.specs.declared.RadonResponseView.{RadonResponseView}
 use Rattle.view.proofs.Copies.{passes}
 use Rattle.view.proofs.Walk.{gone, ends, answered, met}

@@ -34,18 +34,18 @@ use denote.Triple.Entry.{onEntry}
 use denote.Triple.Spec.{tripleOf}
 use denote.Triple.Table.{cited}
 use denote.Triple.Walked.{walkOf}
-use Rattle.view.specs.View.{placeAt}
+use Rattle.places.specs.Places.{placeAt}
 use Rattle.view.specs.declared.RadonResponseView.{RadonResponseView}
-use Rattle.view.specs.declared.Place.{Place}
+use Rattle.places.specs.declared.Place.{Place}
 use Rattle.view.proofs.Copies.{copies, passes}
 use Rattle.view.proofs.Walk.{gone, ends, answered, met}
 use Rattle.view.proofs.Viewed.{Token, mach, spelled, told, typed, handed, rejoined}
 use Rattle.view.proofs.RadonResponseView.Laws as T′
-use Rattle.view.proofs.Place as P
-use Rattle.view.proofs.Place.Laws as P′
-use Rattle.view.proofs.place_at as callee
-use Rattle.view.proofs.place_at.Symbol as callee-def
-use Rattle.view.proofs.place_at.Met as callee-thm
+use Rattle.places.proofs.Place as P
+use Rattle.places.proofs.Place.Laws as P′
+use Rattle.places.proofs.place_at as callee
+use Rattle.places.proofs.place_at.Symbol as callee-def
+use Rattle.places.proofs.place_at.Met as callee-thm
 use Rattle.view.proofs.RadonResponseView.at as at
 use Rattle.view.proofs.RadonResponseView.at.Key.{name}
 use Rattle.view.proofs.RadonResponseView.at.Statement as stated
@@ -115,7 +115,7 @@ pub at-spec : {M : Type 1} → stated.statement M
 unfolding code.routine
 at-spec 𝓤 H 𝓜 𝓖 𝓡 =
     let known =
-    cited 𝓤 H (Called 𝓤 H (𝓖 .A) (𝓜 .mem) (𝓡 .run)) 𝓜 𝓡 code.env callee-def.name callee-def.routine code.calls-view·place-at
+    cited 𝓤 H (Called 𝓤 H (𝓖 .A) (𝓜 .mem) (𝓡 .run)) 𝓜 𝓡 code.env callee-def.name callee-def.routine code.calls-places·place-at
     (callee-thm.met 𝓤 H 𝓜 𝓖 𝓡) in
     met 𝓤 H 𝓜 𝓖 𝓡 code.env at.ended (at.clauses 𝓤 H (𝓖 .A) (𝓜 .mem) (𝓡 .run)) name code.function
     (λ κs. (spelled κs, (uint-vals w64, (uint-vals w64, tt)))) (λ κs. (told κs, (uint-tells w64, (uint-tells w64, tt)))) (code.unfolded 𝓤 H 𝓜 𝓡)

@@ -34,15 +34,15 @@ use denote.Triple.Entry.{onEntry}
 use denote.Triple.Spec.{tripleOf}
 use denote.Triple.Table.{cited}
 use denote.Triple.Walked.{walkOf}
-use Rattle.view.specs.View.{Row}
+use Rattle.places.specs.Places.{Row}
 use Rattle.view.specs.declared.RadonResponseView.{RadonResponseView}
 use Rattle.view.proofs.Copies.{copies, passes}
 use Rattle.view.proofs.Walk.{gone, ends, answered, met}
 use Rattle.view.proofs.Viewed.{Token, mach, spelled, told, typed, handed, rejoined}
 use Rattle.view.proofs.RadonResponseView.Laws as T′
-use Rattle.view.proofs.row_at as callee
-use Rattle.view.proofs.row_at.Symbol as callee-def
-use Rattle.view.proofs.row_at.Met as callee-thm
+use Rattle.places.proofs.row_at as callee
+use Rattle.places.proofs.row_at.Symbol as callee-def
+use Rattle.places.proofs.row_at.Met as callee-thm
 use Rattle.view.proofs.RadonResponseView.row as row
 use Rattle.view.proofs.RadonResponseView.row.Key.{name}
 use Rattle.view.proofs.RadonResponseView.row.Statement as stated
@@ -109,7 +109,7 @@ pub row-spec : {M : Type 1} → stated.statement M
 unfolding code.routine
 row-spec 𝓤 H 𝓜 𝓖 𝓡 =
     let known =
-    cited 𝓤 H (Called 𝓤 H (𝓖 .A) (𝓜 .mem) (𝓡 .run)) 𝓜 𝓡 code.env callee-def.name callee-def.routine code.calls-view·row-at
+    cited 𝓤 H (Called 𝓤 H (𝓖 .A) (𝓜 .mem) (𝓡 .run)) 𝓜 𝓡 code.env callee-def.name callee-def.routine code.calls-places·row-at
     (callee-thm.met 𝓤 H 𝓜 𝓖 𝓡) in
     met 𝓤 H 𝓜 𝓖 𝓡 code.env row.ended (row.clauses 𝓤 H (𝓖 .A) (𝓜 .mem) (𝓡 .run)) name code.function
     (λ κs. (spelled κs, (uint-vals w64, tt))) (λ κs. (told κs, (uint-tells w64, tt))) (code.unfolded 𝓤 H 𝓜 𝓡)

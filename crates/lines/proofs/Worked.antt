@@ -1,0 +1,48 @@
+-- Printed lines, computed from the definitions: document 01's frame, a refusal, a full list, and floats that are easy
+-- to get wrong. Assumes nothing.
+use mathlib.Core.Path.{_≡_, refl}
+use mathlib.Core.List.{List, [], _∷_}
+use lib.Ieee.{Float, nan, binary32, ofBits, toBits, ofFields, odd, size}
+use Rattle.params.specs.declared.answers.Answer.the-variants.{Complete, ListFull, StatedLength}
+use Rattle.params.specs.Answers.{refused}
+use Rattle.lines.specs.Printed.{ascii, digitsIn, digits, numeral, decimal, word, row, refusedLine, firstLine}
+use Rattle.lines.specs.Printed.{cornerLine, cornerLines, fullLine, printed}
+
+abbrev corner : List Float
+corner = ofBits binary32 0x4040_0000 ∷ ofBits binary32 0x4040_0000 ∷ ofBits binary32 0x481c_4000 ∷ []
+
+pub frame-prints : printed 3 (record { answer = Complete; count = 1; w = 7; h = 7 }) corner
+    ≡ ascii "7 7 1\n" ∷ ascii "40400000 40400000 481C4000\n" ∷ []
+unfolding printed firstLine cornerLines cornerLine row numeral digits digitsIn toBits ofBits ofFields odd size
+frame-prints = refl
+
+-- one corner more than there is room for
+pub full-prints : printed 3 (record { answer = ListFull; count = 2; w = 7; h = 7 }) corner
+    ≡ ascii "7 7 2\n" ∷ ascii "40400000 40400000 481C4000\n" ∷ ascii "list full\n" ∷ []
+unfolding printed firstLine cornerLines cornerLine fullLine row numeral digits digitsIn toBits ofBits ofFields odd size
+full-prints = refl
+
+pub refusal-prints : printed 3 (refused StatedLength) [] ≡ ascii "refused 13\n" ∷ []
+unfolding printed refusedLine row numeral digits digitsIn
+refusal-prints = refl
+
+pub zero-prints : decimal 0 ≡ ascii "0"
+unfolding numeral digits digitsIn
+zero-prints = refl
+
+pub millions-print : decimal 8388608 ≡ ascii "8388608"
+unfolding numeral digits digitsIn
+millions-print = refl
+
+-- the smallest positive float: no zero is left out
+pub small-prints : word (ofBits binary32 1) ≡ ascii "00000001"
+unfolding numeral digits digitsIn toBits ofBits ofFields odd size
+small-prints = refl
+
+pub minus-zero-prints : word (ofBits binary32 0x8000_0000) ≡ ascii "80000000"
+unfolding numeral digits digitsIn toBits ofBits ofFields odd size
+minus-zero-prints = refl
+
+pub nan-prints : word nan ≡ ascii "7FC00000"
+unfolding numeral digits digitsIn toBits
+nan-prints = refl

@@ -1,0 +1,3 @@
+-- Laws of what stands in a list of vectors, over plain variables.
+pub mod Places
+pub mod Patterns
