@@ -21,7 +21,7 @@ use Rattle.frame.specs.declared.Reading.the-variants.{Frame, Refused}
 use Rattle.frame.specs.declared.fields.Field.{Field}
 use Rattle.frame.specs.declared.fields.Field.the-variants as number
 use Rattle.frame.specs.FrameFile.{byteAt, halfAt, wordAt, headerOf, withMode, headerRead, readOf}
-use Rattle.frame.specs.Fields.{held, refusalOf}
+use Rattle.frame.specs.Fields.{held}
 
 -- ---- the file's length
 
@@ -62,15 +62,14 @@ module _ (a : Answer) (v due : ℕ) {f : Field} (is : f ≡ held a v due) where
       only true e = h
       only false e = absurd (let z : _≡_ {A = ℕ} 0 1 = cc in omega arith)
 
-  pub leaves : {b r : Answer} (rest : Reading) → f ≡ number.Refused b → r ≡ refusalOf f
-      → Refused r ≡ cond (not (eqb v due)) (Refused a) rest
+  pub leaves : {b : Answer} (rest : Reading) → f ≡ number.Refused b → Refused b ≡ cond (not (eqb v due)) (Refused a) rest
   unfolding held
-  leaves {b} {r} rest e h = only (eqb v due) (sym e ∙ is) (h ∙ ap refusalOf e)
+  leaves {b} rest e = only (eqb v due) (sym e ∙ is)
     where
-      only : (t : Bool) → number.Refused b ≡ cond t (number.Value v) (number.Refused a) → r ≡ b
-          → Refused r ≡ cond (not t) (Refused a) rest
-      only true e h = absurd (let z : _≡_ {A = ℕ} 0 1 = cc in omega arith)
-      only false e h = cc
+      only : (t : Bool) → number.Refused b ≡ cond t (number.Value v) (number.Refused a)
+          → Refused b ≡ cond (not t) (Refused a) rest
+      only true e = absurd (let z : _≡_ {A = ℕ} 0 1 = cc in omega arith)
+      only false e = cc
 
 -- ---- the mode, which m is
 
