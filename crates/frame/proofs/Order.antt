@@ -1,6 +1,6 @@
 -- The tests of `readOf` in their order: what one answers where it applies, and that the next is asked where it does
 -- not; and the header of a file that passes them. Assumes nothing.
-use mathlib.Core.Path.{_≡_, refl, sym, ap, _∙_}
+use mathlib.Core.Path.{_≡_, sym, _∙_}
 use mathlib.Core.Bool.{Bool, true, false, not, cond}
 use mathlib.Core.List.{List}
 use Prim.Native.Nat.{ℕ, _≤_, _<_}
@@ -14,7 +14,7 @@ use Rattle.params.specs.declared.answers.Answer.the-variants.{FileTooLong, File
 use Rattle.params.specs.declared.settings.PeakFitMode.{PeakFitMode}
 use Rattle.params.specs.declared.settings.NumberedMode.{NumberedMode}
 use Rattle.params.specs.declared.settings.NumberedMode.the-variants as numbered
-use Rattle.params.specs.Settings.{modeNumbered, modeRefusal}
+use Rattle.params.specs.Settings.{modeNumbered}
 use Rattle.frame.specs.declared.Header.{Header}
 use Rattle.frame.specs.declared.Reading.{Reading}
 use Rattle.frame.specs.declared.Reading.the-variants.{Frame, Refused}
@@ -78,9 +78,8 @@ module _ (file : List ℕ) {m : NumberedMode} (is : m ≡ modeNumbered (byteAt f
       → Frame h ≡ withMode file (modeNumbered (byteAt file 12))
   mode-known e h = rw (← is, e, h)
 
-  pub mode-refused : {b r : Answer} → m ≡ numbered.Refused b → r ≡ modeRefusal m
-      → Refused r ≡ withMode file (modeNumbered (byteAt file 12))
-  mode-refused e h = rw (← is, e) (ap Refused (h ∙ ap modeRefusal e))
+  pub mode-refused : {b : Answer} → m ≡ numbered.Refused b → Refused b ≡ withMode file (modeNumbered (byteAt file 12))
+  mode-refused e = rw (← is, e)
 
 -- ---- the header, of what its readers have read
 

@@ -54,8 +54,9 @@ fn read_header(file: &[u8]) -> Reading
         return Reading::Refused(answer);
     }
     let mode = fields::mode(file);
-    let NumberedMode::Known(fit) = mode else {
-        return Reading::Refused(mode.refusal());
+    let fit = match mode {
+        NumberedMode::Known(fit) => fit,
+        NumberedMode::Refused(answer) => return Reading::Refused(answer),
     };
     Reading::Frame(header_of(file, fit))
 }

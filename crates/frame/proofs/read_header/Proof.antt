@@ -57,11 +57,8 @@ mode-requires c κs = search needs
 enum-known-mode : tie.Need-enum-known-mode
 enum-known-mode c = search needs
 
-enum-told-3 : tie.Need-enum-told-3
-enum-told-3 c = search needs
-
-refusal-requires : tie.Need-refusal-requires
-refusal-requires c κs = search needs
+enum-known-mode-2 : tie.Need-enum-known-mode-2
+enum-known-mode-2 c = search needs
 
 returns-3 : tie.Need-returns-3
 unfolding headerRead
@@ -71,7 +68,7 @@ returns-3 c =
     let v = from-stated s in
     goes-on _ _ _ (v .version .ensures) (s .before .enum-told .given .1)
     (goes-on _ _ _ (s .stated-length .ensures) (m .before .enum-told2 .given .1)
-    (mode-refused (file v) (m .mode .ensures) (c .before .enum-told3 .given .1) (c .refusal .ensures)))
+    (mode-refused (file v) (m .mode .ensures) (c .before .mode3 .given .1)))
 
 header-of-requires : tie.Need-header-of-requires
 header-of-requires c κs = search needs
@@ -101,8 +98,7 @@ read-header-spec =
     enum-told-2
     mode-requires
     enum-known-mode
-    enum-told-3
-    refusal-requires
+    enum-known-mode-2
     returns-3
     header-of-requires
     returns-4)
