@@ -1,6 +1,6 @@
 -- The tests of `readOf` in their order: what one answers where it applies, and that the next is asked where it does
 -- not; and the header of a file that passes them. Assumes nothing.
-use mathlib.Core.Path.{_≡_, refl, sym, ap, _∙_}
+use mathlib.Core.Path.{_≡_, sym, _∙_}
 use mathlib.Core.Bool.{Bool, true, false, not, cond}
 use mathlib.Core.List.{List}
 use Prim.Native.Nat.{ℕ, _≤_, _<_}
@@ -14,14 +14,14 @@ use Rattle.params.specs.declared.answers.Answer.the-variants.{FileTooLong, File
 use Rattle.params.specs.declared.settings.PeakFitMode.{PeakFitMode}
 use Rattle.params.specs.declared.settings.NumberedMode.{NumberedMode}
 use Rattle.params.specs.declared.settings.NumberedMode.the-variants as numbered
-use Rattle.params.specs.Settings.{modeNumbered, modeRefusal}
+use Rattle.params.specs.Settings.{modeNumbered}
 use Rattle.frame.specs.declared.Header.{Header}
 use Rattle.frame.specs.declared.Reading.{Reading}
 use Rattle.frame.specs.declared.Reading.the-variants.{Frame, Refused}
 use Rattle.frame.specs.declared.fields.Field.{Field}
 use Rattle.frame.specs.declared.fields.Field.the-variants as number
 use Rattle.frame.specs.FrameFile.{byteAt, halfAt, wordAt, headerOf, withMode, headerRead, readOf}
-use Rattle.frame.specs.Fields.{held, refusalOf}
+use Rattle.frame.specs.Fields.{held}
 
 -- ---- the file's length
 
@@ -62,15 +62,14 @@ module _ (a : Answer) (v due : ℕ) {f : Field} (is : f ≡ held a v due) where
       only true e = h
       only false e = absurd (let z : _≡_ {A = ℕ} 0 1 = cc in omega arith)
 
-  pub leaves : {b r : Answer} (rest : Reading) → f ≡ number.Refused b → r ≡ refusalOf f
-      → Refused r ≡ cond (not (eqb v due)) (Refused a) rest
+  pub leaves : {b : Answer} (rest : Reading) → f ≡ number.Refused b → Refused b ≡ cond (not (eqb v due)) (Refused a) rest
   unfolding held
-  leaves {b} {r} rest e h = only (eqb v due) (sym e ∙ is) (h ∙ ap refusalOf e)
+  leaves {b} rest e = only (eqb v due) (sym e ∙ is)
     where
-      only : (t : Bool) → number.Refused b ≡ cond t (number.Value v) (number.Refused a) → r ≡ b
-          → Refused r ≡ cond (not t) (Refused a) rest
-      only true e h = absurd (let z : _≡_ {A = ℕ} 0 1 = cc in omega arith)
-      only false e h = cc
+      only : (t : Bool) → number.Refused b ≡ cond t (number.Value v) (number.Refused a)
+          → Refused b ≡ cond (not t) (Refused a) rest
+      only true e = absurd (let z : _≡_ {A = ℕ} 0 1 = cc in omega arith)
+      only false e = cc
 
 -- ---- the mode, which m is
 
@@ -79,9 +78,8 @@ module _ (file : List ℕ) {m : NumberedMode} (is : m ≡ modeNumbered (byteAt f
       → Frame h ≡ withMode file (modeNumbered (byteAt file 12))
   mode-known e h = rw (← is, e, h)
 
-  pub mode-refused : {b r : Answer} → m ≡ numbered.Refused b → r ≡ modeRefusal m
-      → Refused r ≡ withMode file (modeNumbered (byteAt file 12))
-  mode-refused e h = rw (← is, e) (ap Refused (h ∙ ap modeRefusal e))
+  pub mode-refused : {b : Answer} → m ≡ numbered.Refused b → Refused b ≡ withMode file (modeNumbered (byteAt file 12))
+  mode-refused e = rw (← is, e)
 
 -- ---- the header, of what its readers have read
 

@@ -3,15 +3,9 @@ use mathlib.Core.Bool.{cond}
 use Prim.Native.Nat.{ℕ}
 use lib.Dec.{eqb}
 use Rattle.params.specs.declared.answers.Answer.{Answer}
-use Rattle.params.specs.declared.answers.Answer.the-variants.{Complete}
 use Rattle.frame.specs.declared.fields.Field.{Field}
 use Rattle.frame.specs.declared.fields.Field.the-variants as number
 
 -- v stands in the field, and it must be `due`
 unfoldable pub held : Answer → ℕ → ℕ → Field
 held a v due = cond (eqb v due) (number.Value v) (number.Refused a)
-
--- the refusal that a field carries; one that has a value is not refused
-abbrev pub refusalOf : Field → Answer
-refusalOf (number.Value v) = Complete
-refusalOf (number.Refused a) = a

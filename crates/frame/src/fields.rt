@@ -8,24 +8,12 @@ ghost use lib.Ieee.{binary32, ofBits};
 ghost use lib.ListN.{length};
 ghost use Rattle.params.specs.Settings.{modeNumbered};
 ghost use Rattle.frame.specs.FrameFile.{byteAt, halfAt, wordAt};
-ghost use Rattle.frame.specs.Fields.{held, refusalOf};
+ghost use Rattle.frame.specs.Fields.{held};
 
 // A field's outcome.
 pub enum Field {
     Value(u32),
     Refused(Answer),
-}
-
-impl Field {
-    // The answer by which a field is refused. One that has a value is not refused: that is answer 0.
-    pub fn refusal(self) -> Answer
-        ensures { λ r. ⌜ r ≡ refusalOf self ⌝ }
-    {
-        match self {
-            Field::Value(_) => Answer::Complete,
-            Field::Refused(answer) => answer,
-        }
-    }
 }
 
 fn wide(b: u8) -> u32

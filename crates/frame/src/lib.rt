@@ -46,16 +46,17 @@ fn read_header(file: &[u8]) -> Reading
     ensures { λ r. ⌜ r ≡ headerRead (now (file .entry)) ⌝ }
 {
     let version = fields::version(file);
-    let Field::Value(_) = version else {
-        return Reading::Refused(version.refusal());
-    };
+    if let Field::Refused(answer) = version {
+        return Reading::Refused(answer);
+    }
     let stated = fields::stated_length(file);
-    let Field::Value(_) = stated else {
-        return Reading::Refused(stated.refusal());
-    };
+    if let Field::Refused(answer) = stated {
+        return Reading::Refused(answer);
+    }
     let mode = fields::mode(file);
-    let NumberedMode::Known(fit) = mode else {
-        return Reading::Refused(mode.refusal());
+    let fit = match mode {
+        NumberedMode::Known(fit) => fit,
+        NumberedMode::Refused(answer) => return Reading::Refused(answer),
     };
     Reading::Frame(header_of(file, fit))
 }

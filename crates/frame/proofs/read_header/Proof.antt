@@ -22,32 +22,23 @@ file c = now (c .before .before .args .file)
 version-requires : tie.Need-version-requires
 version-requires c κs = search needs
 
-enum-told : tie.Need-enum-told
-enum-told c = search needs
-
-enum-told-2 : tie.Need-enum-told-2
-enum-told-2 c = search needs
-
-refusal-requires : tie.Need-refusal-requires
-refusal-requires c κs = search needs
+enum-known-version : tie.Need-enum-known-version
+enum-known-version c = search needs
 
 returns : tie.Need-returns
 unfolding headerRead
 returns c =
     let v = c .before .before .before in
-    leaves _ _ _ (v .version .ensures) _ (c .before .enum-told2 .given .1) (c .refusal .ensures)
+    leaves _ _ _ (v .version .ensures) _ (c .before .version2 .given .1)
+
+enum-told : tie.Need-enum-told
+enum-told c = search needs
 
 stated-length-requires : tie.Need-stated-length-requires
 stated-length-requires c κs = search needs
 
-enum-told-3 : tie.Need-enum-told-3
-enum-told-3 c = search needs
-
-enum-told-4 : tie.Need-enum-told-4
-enum-told-4 c = search needs
-
-refusal-requires-2 : tie.Need-refusal-requires-2
-refusal-requires-2 c κs = search needs
+enum-known-stated : tie.Need-enum-known-stated
+enum-known-stated c = search needs
 
 returns-2 : tie.Need-returns-2
 unfolding headerRead
@@ -55,7 +46,10 @@ returns-2 c =
     let s = c .before .before .before in
     let v = from-stated s in
     goes-on _ _ _ (v .version .ensures) (s .before .enum-told .given .1)
-    (leaves _ _ _ (s .stated-length .ensures) _ (c .before .enum-told4 .given .1) (c .refusal2 .ensures))
+    (leaves _ _ _ (s .stated-length .ensures) _ (c .before .stated .given .1))
+
+enum-told-2 : tie.Need-enum-told-2
+enum-told-2 c = search needs
 
 mode-requires : tie.Need-mode-requires
 mode-requires c κs = search needs
@@ -63,11 +57,8 @@ mode-requires c κs = search needs
 enum-known-mode : tie.Need-enum-known-mode
 enum-known-mode c = search needs
 
-enum-told-5 : tie.Need-enum-told-5
-enum-told-5 c = search needs
-
-refusal-requires-3 : tie.Need-refusal-requires-3
-refusal-requires-3 c κs = search needs
+enum-known-mode-2 : tie.Need-enum-known-mode-2
+enum-known-mode-2 c = search needs
 
 returns-3 : tie.Need-returns-3
 unfolding headerRead
@@ -76,8 +67,8 @@ returns-3 c =
     let s = from-mode m in
     let v = from-stated s in
     goes-on _ _ _ (v .version .ensures) (s .before .enum-told .given .1)
-    (goes-on _ _ _ (s .stated-length .ensures) (m .before .enum-told3 .given .1)
-    (mode-refused (file v) (m .mode .ensures) (c .before .enum-told5 .given .1) (c .refusal3 .ensures)))
+    (goes-on _ _ _ (s .stated-length .ensures) (m .before .enum-told2 .given .1)
+    (mode-refused (file v) (m .mode .ensures) (c .before .mode3 .given .1)))
 
 header-of-requires : tie.Need-header-of-requires
 header-of-requires c κs = search needs
@@ -90,7 +81,7 @@ returns-4 c =
     let s = from-mode m in
     let v = from-stated s in
     goes-on _ _ _ (v .version .ensures) (s .before .enum-told .given .1)
-    (goes-on _ _ _ (s .stated-length .ensures) (m .before .enum-told3 .given .1)
+    (goes-on _ _ _ (s .stated-length .ensures) (m .before .enum-told2 .given .1)
     (mode-known (file v) (m .mode .ensures) (k .before .mode2 .given .1) (c .header-of .ensures)))
 
 pub read-header-spec : {M : Type 1} → statement M
@@ -98,19 +89,16 @@ read-header-spec =
     tie.close
     (tie.spec
     version-requires
-    enum-told
-    enum-told-2
-    refusal-requires
+    enum-known-version
     returns
+    enum-told
     stated-length-requires
-    enum-told-3
-    enum-told-4
-    refusal-requires-2
+    enum-known-stated
     returns-2
+    enum-told-2
     mode-requires
     enum-known-mode
-    enum-told-5
-    refusal-requires-3
+    enum-known-mode-2
     returns-3
     header-of-requires
     returns-4)
