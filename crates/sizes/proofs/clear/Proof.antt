@@ -1,8 +1,8 @@
--- `saddle::clear` meets its contract. Assumes nothing.
+-- `sizes::clear` meets its contract. Assumes nothing.
 use borrow.Author.Needs.{needs}
-use Rattle.saddle.proofs.Fitting.{clear-is}
-use Rattle.saddle.proofs.clear.Statement.{statement}
-use Rattle.saddle.proofs.clear.Tie as tie
+use Rattle.sizes.proofs.Fitting.{clear-is}
+use Rattle.sizes.proofs.clear.Statement.{statement}
+use Rattle.sizes.proofs.clear.Tie as tie
 
 less-requires : tie.Need-less-requires
 less-requires c κs = search needs
