@@ -15,7 +15,7 @@ use Rattle.params.specs.declared.settings.RadonDetectorParams.{RadonDetectorPar
 use Rattle.params.specs.Answers.{numberOf, refused}
 use Rattle.params.specs.Refusals.{orElse, mapRefusal, listRefusal, roomRefusal}
 use Rattle.params.proofs.Accepted.{both-pass, map-passes, list-passes, room-passes}
-use Rattle.detect.specs.declared.verdict.Scan.{Scan}
+use Rattle.verdict.specs.declared.Scan.{Scan}
 use Rattle.detect.specs.Corners.{stride}
 use Rattle.detect.specs.Detected.{workingRefusal, peaksRefusal, refusalFor, fullOr, peaksOutcome, listOf}
 use Rattle.detect.specs.Scan.{scanOf, Asked, Found}

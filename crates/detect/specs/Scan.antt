@@ -11,12 +11,13 @@ use Rattle.grid.specs.Over.{written, Onward}
 use Rattle.params.specs.declared.settings.PeakFitMode.{PeakFitMode}
 use Rattle.params.specs.declared.settings.RadonDetectorParams.{RadonDetectorParams}
 use Rattle.params.specs.Settings.{rayOf}
-use Rattle.detect.specs.declared.verdict.Verdict.{Verdict}
-use Rattle.detect.specs.declared.verdict.Scan.{Scan}
+use Rattle.verdict.specs.declared.Verdict.{Verdict}
+use Rattle.verdict.specs.declared.Scan.{Scan}
 use Rattle.saddle.specs.Saddle.{saddleOf}
 use Rattle.peak_fit.specs.PeakFit.{fitOf}
-use Rattle.detect.specs.Maximum.{entry}
-use Rattle.detect.specs.Corners.{borderOf, floorOf, isKept, verdict, corners, stride, numbers}
+use Rattle.crests.specs.Maximum.{entry}
+use Rattle.detect.specs.Corners.{borderOf, floorOf, corners, stride, numbers}
+use Rattle.verdict.specs.Verdict.{isKept, verdict}
 
 -- ---- what a scan goes by, and what that says of a place over the map and the image in two buffers
 

@@ -1,9 +1,5 @@
 // The list: which pixels of the map are corners, and where between the pixels each one lies.
-mod crests;
-mod maximum;
-mod neighbors;
 mod peaks;
-mod verdict;
 
 use params::Answer;
 use params::Outcome;

@@ -5,17 +5,17 @@
 // last. `next_in_row` takes it from one place to the next that may be kept: a run of values at or under the floor, or less than a
 // neighbour in the row, is passed over unjudged, since no such place is kept. Where it stops, `list_if_kept` judges the candidate by all
 // rules. A kept one is counted, and while the list has room its three numbers are stored as the next of the list.
-use super::crests::next_candidate;
-use super::maximum::max_response;
-use super::verdict::Scan;
-use super::verdict::is_kept;
-use super::verdict::judge_at;
+use crests::max_response;
+use crests::next_candidate;
 use params::Input;
 use params::PeakFitMode;
 use params::RadonDetectorParams;
 use params::Working;
 use peak_fit::fit_peak_frac;
 use saddle::new;
+use verdict::Scan;
+use verdict::is_kept;
+use verdict::judge_at;
 ghost use mathlib.Core.Path.{_≡_};
 ghost use Prim.Native.Nat.{_+_, _*_, _/_, _<_, _≤_};
 ghost use mathlib.Core.List.{[], _∷_};
@@ -23,7 +23,7 @@ ghost use lib.ListN.{length};
 ghost use lib.Seq.{sets};
 ghost use Rattle.grid.specs.Rect.{place};
 ghost use Rattle.detect.specs.Corners.{borderOf, stride, inputAt};
-ghost use Rattle.detect.specs.Room.{Cross};
+ghost use Rattle.verdict.specs.Room.{Cross};
 ghost use Rattle.detect.specs.Scan.{scanOf, floorIn, fitAround, numbersIn, Judging, Candidate, Finding, NextInRow, Entered, RowFound, Found};
 
 // How far candidates stay from every edge: the window, the rays and one pixel for the fit lie inside.
