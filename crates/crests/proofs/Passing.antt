@@ -14,7 +14,7 @@ use lib.Seq.{getD-take, getD-drop}
 use lib.Dec.{lit<, ltb, leb}
 use lib.Ieee.{Float, nan, lt}
 use Rattle.sizes.proofs.Fitting.{both-true, true-both}
-use Rattle.crests.specs.Crests.{over, crest, worth, eight, None, Passed, Next, searchFits, Sought}
+use Rattle.crests.specs.Crests.{over, crest, worth, four, eight, None, Passed, Next, searchFits, Sought}
 
 nor : (a b : Bool) → (a || b) ≡ false → (a ≡ false) × (b ≡ false)
 nor true b h = absurd (true≢false h)
@@ -36,23 +36,20 @@ module _ (p : ℕ → Bool) where
       let e : k ≡ i = omega arith in
       rw e h
 
-  pub none-eight : (i : ℕ) → eight p i ≡ false → None p i (i + 8)
-  none-eight i h =
-      let u = nor _ _ h in
-      let a = nor _ _ (u .0) in
+  none-four : (i : ℕ) → four p i ≡ false → None p i (i + 4)
+  none-four i h =
+      let a = nor _ _ h in
       let b = nor _ _ (a .0) in
       let d = nor _ _ (b .0) in
-      let e = nor _ _ (u .1) in
-      let f = nor _ _ (e .0) in
-      let g = nor _ _ (f .0) in
-      none-on i (i + 1) (i + 8) (none-one i _ refl (d .0))
-      (none-on (i + 1) (i + 2) (i + 8) (none-one (i + 1) _ (omega arith) (d .1))
-      (none-on (i + 2) (i + 3) (i + 8) (none-one (i + 2) _ (omega arith) (b .1))
-      (none-on (i + 3) (i + 4) (i + 8) (none-one (i + 3) _ (omega arith) (a .1))
-      (none-on (i + 4) (i + 5) (i + 8) (none-one (i + 4) _ (omega arith) (g .0))
-      (none-on (i + 5) (i + 6) (i + 8) (none-one (i + 5) _ (omega arith) (g .1))
-      (none-on (i + 6) (i + 7) (i + 8) (none-one (i + 6) _ (omega arith) (f .1))
-      (none-one (i + 7) _ (omega arith) (e .1))))))))
+      none-on i (i + 1) (i + 4) (none-one i _ refl (d .0))
+      (none-on (i + 1) (i + 2) (i + 4) (none-one (i + 1) _ (omega arith) (d .1))
+      (none-on (i + 2) (i + 3) (i + 4) (none-one (i + 2) _ (omega arith) (b .1))
+      (none-one (i + 3) _ (omega arith) (a .1))))
+
+  pub none-eight : (i : ℕ) → eight p i ≡ false → None p i (i + 8)
+  none-eight i h =
+      let u = nor (four p i) (four p (i + 4)) h in
+      none-on i (i + 4) (i + 8) (none-four i (u .0)) (λ k a b. none-four (i + 4) (u .1) k a (omega arith))
 
 -- ---- a search for p from a to below e: the answers r and t are those of the code's tests, as they come
 
@@ -77,19 +74,22 @@ module _ (p : ℕ → Bool) (a e : ℕ) where
 
 -- ---- crests
 
--- eight answers are the eight
-pub eight-is : (p : ℕ → Bool) (i : ℕ) {a b c d e f g h : Bool} → a ≡ p i → b ≡ p (i + 1) → c ≡ p (i + 2) → d ≡ p (i + 3)
-    → e ≡ p (i + 4) → f ≡ p (i + 5) → g ≡ p (i + 6) → h ≡ p (i + 7)
-    → (((a || b) || c) || d) || (((e || f) || g) || h) ≡ eight p i
-eight-is p i a b c d e f g h = rw (a, b, c, d, e, f, g, h)
+-- four answers are the four
+pub four-is : (p : ℕ → Bool) (i : ℕ) {a b c d : Bool} → a ≡ p i → b ≡ p (i + 1) → c ≡ p (i + 2) → d ≡ p (i + 3)
+    → ((a || b) || c) || d ≡ four p i
+four-is p i a b c d = rw (a, b, c, d)
 
--- none of the eight is a crest where none is above the floor
+-- none of the four, and so none of the eight, is a crest where none is above the floor
+no-four : (floor : Float) (s : List Float) (i : ℕ) → four (over floor s) i ≡ false → false ≡ four (crest floor s) i
+no-four floor s i h =
+    let low = none-four (over floor s) i h in
+    let n : (k : ℕ) → k < 4 → false ≡ crest floor s (i + k) = λ k b. sym (rw (low (i + k) (omega arith) (omega arith))) in
+    four-is (crest floor s) i (rw add-zero at (n 0 (lit< tt))) (n 1 (lit< tt)) (n 2 (lit< tt)) (n 3 (lit< tt))
+
 pub no-crests : (floor : Float) (s : List Float) (i : ℕ) {r : Bool} → r ≡ eight (over floor s) i → r ≡ false → false ≡ eight (crest floor s) i
 no-crests floor s i h t =
-    let low = none-eight (over floor s) i (sym h ∙ t) in
-    let n : (k : ℕ) → k < 8 → false ≡ crest floor s (i + k) = λ k b. sym (rw (low (i + k) (omega arith) (omega arith))) in
-    eight-is (crest floor s) i (rw add-zero at (n 0 (lit< tt)))
-    (n 1 (lit< tt)) (n 2 (lit< tt)) (n 3 (lit< tt)) (n 4 (lit< tt)) (n 5 (lit< tt)) (n 6 (lit< tt)) (n 7 (lit< tt))
+    let u = nor (four (over floor s) i) (four (over floor s) (i + 4)) (sym h ∙ t) in
+    rw (← no-four floor s i (u .0)) (no-four floor s (i + 4) (u .1))
 
 -- ---- the next place that is worth a verdict
 

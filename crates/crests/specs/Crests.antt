@@ -16,9 +16,12 @@ over floor s k = lt floor (entry s k)
 abbrev pub crest : Float → List Float → ℕ → Bool
 crest floor s k = over floor s k && (not (lt (entry s k) (entry s (k - 1))) && not (lt (entry s k) (entry s (k + 1))))
 
--- one of the eight from i on, grouped as the code has them
+-- one of the four or of the eight from i on, grouped as the code has them
+abbrev pub four : (ℕ → Bool) → ℕ → Bool
+four p i = ((p i || p (i + 1)) || p (i + 2)) || p (i + 3)
+
 abbrev pub eight : (ℕ → Bool) → ℕ → Bool
-eight p i = (((p i || p (i + 1)) || p (i + 2)) || p (i + 3)) || (((p (i + 4) || p (i + 5)) || p (i + 6)) || p (i + 7))
+eight p i = four p i || four p (i + 4)
 
 -- p holds at none from a to below e
 abbrev pub None : (ℕ → Bool) → ℕ → ℕ → Type 0

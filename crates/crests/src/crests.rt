@@ -2,7 +2,15 @@
 ghost use mathlib.Core.Path.{_≡_};
 ghost use Prim.Native.Nat.{_+_, _≤_, _<_};
 ghost use lib.ListN.{length};
-ghost use Rattle.crests.specs.Crests.{over, crest, worth, eight, Passed, Next, searchFits, Sought};
+ghost use Rattle.crests.specs.Crests.{over, crest, worth, four, eight, Passed, Next, searchFits, Sought};
+
+// Whether one of the four values from i on is above the floor.
+fn four_above(s: &[f32], i: usize, floor: f32) -> bool
+    requires { ⌜ i + 4 ≤ length (now s) ⌝ }
+    ensures { λ r. ⌜ r ≡ four (over floor (now (s .entry))) i ⌝ }
+{
+    (s[i] > floor) | (s[i + 1] > floor) | (s[i + 2] > floor) | (s[i + 3] > floor)
+}
 
 // Whether one of the eight values from i on is above the floor. All eight are compared, so that no branch stands between them.
 // The maximum stands on this too.
@@ -10,8 +18,7 @@ pub fn eight_above(s: &[f32], i: usize, floor: f32) -> bool
     requires { ⌜ i + 8 ≤ length (now s) ⌝ }
     ensures { λ r. ⌜ r ≡ eight (over floor (now (s .entry))) i ⌝ }
 {
-    ((s[i] > floor) | (s[i + 1] > floor) | (s[i + 2] > floor) | (s[i + 3] > floor))
-        | ((s[i + 4] > floor) | (s[i + 5] > floor) | (s[i + 6] > floor) | (s[i + 7] > floor))
+    four_above(s, i, floor) | four_above(s, i + 4, floor)
 }
 
 // How far eights without a value above the floor go.
@@ -53,19 +60,23 @@ fn is_crest(s: &[f32], k: usize, floor: f32) -> bool
     (v > floor) & (!(s[k - 1] > v) & !(s[k + 1] > v))
 }
 
-// Whether one of the eight places from i on is such a crest.
+// Whether one of the four places from i on is such a crest.
+fn four_crests(s: &[f32], i: usize, floor: f32) -> bool
+    requires { ⌜ (1 ≤ i) × (i + 4 < length (now s)) ⌝ }
+    ensures { λ r. ⌜ r ≡ four (crest floor (now (s .entry))) i ⌝ }
+{
+    is_crest(s, i, floor)
+        | is_crest(s, i + 1, floor)
+        | is_crest(s, i + 2, floor)
+        | is_crest(s, i + 3, floor)
+}
+
+// Whether one of the eight is.
 fn eight_crests(s: &[f32], i: usize, floor: f32) -> bool
     requires { ⌜ (1 ≤ i) × (i + 8 < length (now s)) ⌝ }
     ensures { λ r. ⌜ r ≡ eight (crest floor (now (s .entry))) i ⌝ }
 {
-    (is_crest(s, i, floor)
-        | is_crest(s, i + 1, floor)
-        | is_crest(s, i + 2, floor)
-        | is_crest(s, i + 3, floor))
-        | (is_crest(s, i + 4, floor)
-            | is_crest(s, i + 5, floor)
-            | is_crest(s, i + 6, floor)
-            | is_crest(s, i + 7, floor))
+    four_crests(s, i, floor) | four_crests(s, i + 4, floor)
 }
 
 // The same, asked in two steps: mostly none of the eight is above the floor, and no neighbour need be read.
