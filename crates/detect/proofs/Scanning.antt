@@ -36,10 +36,10 @@ use Rattle.crests.specs.Maximum.{entry, greater, greatestOf, maximum}
 use Rattle.verdict.specs.Window.{at, beaten, positives}
 use Rattle.crests.specs.Crests.{over, crest, Sought}
 use Rattle.crests.proofs.Passing.{sought-plain, not-worth}
-use Rattle.detect.specs.Corners.{candidates, floorOf, corners, stride, inputAt, numbers}
+use Rattle.detect.specs.Corners.{candidates, floorOf, corners, stride, numbers}
 use Rattle.verdict.specs.Verdict.{firstFailing, isSaddle, isKept, verdict, windowFits, firstFailingIn}
 use Rattle.verdict.specs.Room.{Cross}
-use Rattle.detect.specs.Scan.{scanOf, floorIn, verdictIn, keptIn, numbersIn, fitAround, borderIn, rowsAbove}
+use Rattle.detect.specs.Scan.{scanOf, floorIn, verdictIn, keptIn, numbersIn, fittedAt, borderIn, rowsAbove}
 use Rattle.detect.specs.Scan.{Asked, Judging, Candidate, Finding, NextInRow, Entered, RowFound, Found}
 use Rattle.verdict.proofs.Windows.{cross}
 use Rattle.verdict.proofs.Rules.{room, judged-plain}
@@ -100,17 +100,16 @@ module _ (s : Scan) (l r : List Float) (n x y : ℕ) (k : Cross (s .w) x y (leng
   abbrev centre : ℕ
   centre = y * s .w + x
 
-  pub stored : {fx fy a b : Float} {new : List Float}
-      → fx ≡ fitAround (s .params .«peak_fit») r centre 1 → fy ≡ fitAround (s .params .«peak_fit») r centre (s .w)
-      → a ≡ inputAt (s .params .«image_upsample») x fx → b ≡ inputAt (s .params .«image_upsample») y fy
+  pub stored : {a b : Float} {new : List Float}
+      → a ≡ fittedAt (s .params) r centre 1 (entry r centre) x → b ≡ fittedAt (s .params) r centre (s .w) (entry r centre) y
       → new ≡ sets l (stride * n) (a ∷ b ∷ entry r centre ∷ []) → new ≡ sets l (stride * n) (numbersIn s r (place x y))
   unfolding numbers
-  stored e1 e2 e3 e4 all =
+  stored e1 e2 all =
       let i : centre - 1 ≡ y * s .w + (x - 1) = omega arith in
       let j : centre + 1 ≡ y * s .w + (x + 1) = omega arith in
       let u : centre - s .w ≡ (y - 1) * s .w + x = omega arith in
       let d : centre + s .w ≡ (y + 1) * s .w + x = omega arith in
-      rw (e3, e4, e1, e2, i, j, u, d) at all
+      rw (e1, e2, i, j, u, d) at all
 
 -- ---- a candidate that is judged, by what was said of it
 

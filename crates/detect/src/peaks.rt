@@ -8,7 +8,6 @@
 use crests::max_response;
 use crests::next_candidate;
 use params::Input;
-use params::PeakFitMode;
 use params::RadonDetectorParams;
 use params::Working;
 use peak_fit::fit_peak_frac;
@@ -22,9 +21,9 @@ ghost use mathlib.Core.List.{[], _∷_};
 ghost use lib.ListN.{length};
 ghost use lib.Seq.{sets};
 ghost use Rattle.grid.specs.Rect.{place};
-ghost use Rattle.detect.specs.Corners.{borderOf, stride, inputAt};
+ghost use Rattle.detect.specs.Corners.{borderOf, stride};
 ghost use Rattle.verdict.specs.Room.{Cross};
-ghost use Rattle.detect.specs.Scan.{scanOf, floorIn, fitAround, numbersIn, Judging, Candidate, Finding, NextInRow, Entered, RowFound, Found};
+ghost use Rattle.detect.specs.Scan.{scanOf, floorIn, fittedAt, numbersIn, Judging, Candidate, Finding, NextInRow, Entered, RowFound, Found};
 
 // How far candidates stay from every edge: the window, the rays and one pixel for the fit lie inside.
 fn border(params: RadonDetectorParams) -> usize
@@ -33,20 +32,21 @@ fn border(params: RadonDetectorParams) -> usize
     params.ray_radius_clamped() as usize + params.nms_radius as usize + 1
 }
 
-// The offset of a peak at c from its two neighbours, `step` before and after.
-fn fitted(resp: &[f32], c: usize, step: usize, mode: PeakFitMode) -> f32
-    requires { ⌜ (step ≤ c) × (c + step < length (now resp)) ⌝ }
-    ensures { λ r. ⌜ r ≡ fitAround mode (now (resp .entry)) c step ⌝ }
+// Along one axis, a peak of value v at entry c and pixel `at`, in the input image: its offset is fitted to the entries `step` before and after.
+fn fitted(
+    resp: &[f32],
+    c: usize,
+    step: usize,
+    v: f32,
+    params: RadonDetectorParams,
+    at: usize,
+) -> Input
+    requires { ⌜ (step ≤ c) × (c + step < length (now resp)) × (at ≤ 8192) ⌝ }
+    ensures { λ r. ⌜ r .0 ≡ fittedAt params (now (resp .entry)) c step v at ⌝ }
 {
-    fit_peak_frac(resp[c - step], resp[c], resp[c + step], mode)
-}
-
-// A pixel and its offset, in the input image.
-fn input_at(up: u32, c: usize, offset: f32) -> Input
-    requires { ⌜ c ≤ 8192 ⌝ }
-    ensures { λ r. ⌜ r .0 ≡ inputAt up c offset ⌝ }
-{
-    Working(c as f32 + offset).to_input(up)
+    let mode = params.peak_fit;
+    let offset = fit_peak_frac(resp[c - step], v, resp[c + step], mode);
+    Working(at as f32 + offset).to_input(params.image_upsample)
 }
 
 // Three numbers as corner n of the list. Its place is in input pixels: a working coordinate is not taken.
@@ -67,12 +67,11 @@ fn put_corner(list: &mut [f32], n: usize, resp: &[f32], scan: Scan, x: usize, y:
 {
     let w = scan.w;
     let c = y * w + x;
+    let v = resp[c];
     let params = scan.params;
-    let mode = params.peak_fit;
-    let fx = fitted(resp, c, 1, mode);
-    let fy = fitted(resp, c, w, mode);
-    let up = params.image_upsample;
-    store(list, n, input_at(up, x, fx), input_at(up, y, fy), resp[c]);
+    let px = fitted(resp, c, 1, v, params, x);
+    let py = fitted(resp, c, w, v, params, y);
+    store(list, n, px, py, v);
 }
 
 // The candidate at (x, y), after n corners: judged and, if it is kept, stored where there is room. How many corners there are then.

@@ -63,7 +63,7 @@ fn by_rules(resp: &[f32], image: &[u8], scan: Scan, x: usize, y: usize) -> Verdi
         let params = scan.params;
         let r = params.nms_radius as usize;
         if is_local_max(resp, w, h, x, y, r, v) {
-            if params.min_cluster_size <= count_positive_neighbors(resp, w, h, x, y, r) {
+            if params.min_cluster_size <= count_positive_neighbors(resp, w, h, x, y, r, v) {
                 let k = params.ray_radius_clamped() as usize;
                 return by_saddle(accepts(scan.test, k, image, w, h, x, y));
             }

@@ -83,7 +83,7 @@ fn positive_in_window(resp: &[f32], w: usize, h: usize, x: usize, y: usize, r: u
     count
 }
 
-// How many values in the window of radius r about (x, y) are above zero, the one there not counted.
+// How many values in the window of radius r about (x, y) are above zero, v, the one there, not counted.
 pub fn count_positive_neighbors(
     resp: &[f32],
     w: usize,
@@ -91,14 +91,11 @@ pub fn count_positive_neighbors(
     x: usize,
     y: usize,
     r: usize,
+    v: f32,
 ) -> u32
-    requires { ⌜ Room w h r x y (length (now resp)) ⌝ }
+    requires { ⌜ Room w h r x y (length (now resp)) × (v ≡ value (now resp) w x y) ⌝ }
     ensures { λ n. ⌜ n ≡ positives (value (now (resp .entry)) w) r (place x y) ⌝ }
 {
     let count = positive_in_window(resp, w, h, x, y, r);
-    if resp[y * w + x] > 0.0 {
-        count - 1
-    } else {
-        count
-    }
+    if v > 0.0 { count - 1 } else { count }
 }

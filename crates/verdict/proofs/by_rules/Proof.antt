@@ -37,7 +37,7 @@ is-local-max-requires : tie.Need-is-local-max-requires
 is-local-max-requires c κs = (start (c .before .before .before) .pre, refl)
 
 count-positive-neighbors-requires : tie.Need-count-positive-neighbors-requires
-count-positive-neighbors-requires c κs = start (above (c .before) .before) .pre
+count-positive-neighbors-requires c κs = (start (above (c .before) .before) .pre, refl)
 
 ray-radius-clamped-requires : tie.Need-ray-radius-clamped-requires
 ray-radius-clamped-requires c κs = search needs

@@ -13,18 +13,6 @@ use Rattle.verdict.proofs.neighbors.count_positive_neighbors.Tie as tie
 positive-in-window-requires : tie.Need-positive-in-window-requires
 positive-in-window-requires c κs = search needs
 
-mul-if1 : tie.Need-mul-if1
-mul-if1 c = omega arith
-
-add-if1 : tie.Need-add-if1
-add-if1 c = omega arith
-
-mul-if1-2 : tie.Need-mul-if1-2
-mul-if1-2 c = omega arith
-
-shared-slice-read-if1 : tie.Need-shared-slice-read-if1
-shared-slice-read-if1 c = omega arith
-
 -- from the window's count back to the start
 abbrev start : tie.After-positive-in-window → tie.Start
 start c = c .before .before
@@ -34,11 +22,11 @@ abbrev answer : tie.Start → ℕ
 answer o = positives (value (o .args .resp .now) (o .args .w)) (o .args .r) (place (o .args .x) (o .args .y))
 
 -- the centre was counted
-one-more : (c : tie.Then1) → c .before .before .positive-in-window .result ≡ answer (start (c .before .before)) + 1
+one-more : (c : tie.Then1) → c .before .positive-in-window .result ≡ answer (start (c .before)) + 1
 one-more c =
-    let n = c .before .before in
+    let n = c .before in
     let o = start n in
-    positives-more _ (o .args .r) (o .args .x) (o .args .y) (o .pre .left) (o .pre .above) (n .positive-in-window .ensures) (c .if1 .taken)
+    positives-more _ (o .args .r) (o .args .x) (o .args .y) (o .pre .0 .left) (o .pre .0 .above) (n .positive-in-window .ensures) (rw (o .pre .1) at (c .if1 .taken))
 
 sub-result : tie.Need-sub-result
 sub-result c = omega (arith, one-more c)
@@ -48,19 +36,15 @@ returns c = omega (arith, one-more c)
 
 returns-2 : tie.Need-returns-2
 returns-2 c =
-    let n = c .before .before in
+    let n = c .before in
     let o = start n in
-    positives-same _ (o .args .r) (o .args .x) (o .args .y) (o .pre .left) (o .pre .above) (n .positive-in-window .ensures) (c .if1 .left)
+    positives-same _ (o .args .r) (o .args .x) (o .args .y) (o .pre .0 .left) (o .pre .0 .above) (n .positive-in-window .ensures) (rw (o .pre .1) at (c .if1 .left))
 
 pub count-positive-neighbors-spec : {M : Type 1} → statement M
 count-positive-neighbors-spec =
     tie.close
     (tie.spec
     positive-in-window-requires
-    mul-if1
-    add-if1
-    mul-if1-2
-    shared-slice-read-if1
     sub-result
     returns
     returns-2)
