@@ -2,7 +2,8 @@
 use mathlib.Core.Path.{_≡_, refl, sym, ap, _∙_}
 use mathlib.Core.Logic.{_⊎_, inl, inr}
 use mathlib.Core.Bool.{Bool, true, false, not, _&&_, cond, true≢false}
-use Prim.Native.Nat.{ℕ, _+_, _-_, _*_, _/_, _≤_, _<_, _^_}
+use Prim.Native.Nat.{ℕ, _+_, _-_, _*_, _/_, _≤_, _<_, _^_, min}
+use native.Mathlib.Decide.{decLe}
 use native.Mathlib.Omega.{arith}
 use mathlib.Core.List.{List, [], _∷_}
 use native.Mathlib.Nat.{zero-mul, mul-zero, div-add-mod'}
@@ -297,15 +298,14 @@ empty : {A : Type 0} (l : List A) → length l ≡ 0 → l ≡ []
 empty [] e = refl
 empty (a ∷ l) e = absurd (omega arith)
 
-too-small : (w h b : ℕ) → (w ≤ 2 * b) ⊎ (h ≤ 2 * b) → candidates w h b ≡ []
-too-small w h b c =
-    let z : length (candidates w h b) ≡ 0 = length-rect b (w - b) b (h - b) ∙ elim c [
-      | inl k ↦ ap (λ (i : ℕ). i * (h - b - b)) (omega arith) ∙ zero-mul (h - b - b)
-      | inr k ↦ ap (λ (i : ℕ). (w - b - b) * i) (omega arith) ∙ mul-zero (w - b - b)
-    ] in
-    empty (candidates w h b) z
+too-small : (w h b : ℕ) → min w h ≤ 2 * b → candidates w h b ≡ []
+too-small w h b c = empty (candidates w h b) (length-rect b (w - b) b (h - b) ∙ none (decLe w (2 * b)))
+  where
+    none : Dec (w ≤ 2 * b) → (w - b - b) * (h - b - b) ≡ 0
+    none (yes k) = ap (λ (i : ℕ). i * (h - b - b)) (omega arith) ∙ zero-mul (h - b - b)
+    none (no k) = ap (λ (i : ℕ). (w - b - b) * i) (omega arith) ∙ mul-zero (w - b - b)
 
-pub none-found : {s : Scan} {resp : List Float} {image : List ℕ} {old : List Float} {b : ℕ} → b ≡ borderIn s → (s .w ≤ 2 * b) ⊎ (s .h ≤ 2 * b)
+pub none-found : {s : Scan} {resp : List Float} {image : List ℕ} {old : List Float} {b : ℕ} → b ≡ borderIn s → min (s .w) (s .h) ≤ 2 * b
     → Found s resp image old 0 old
 unfolding corners
 none-found {s} {resp} {image} {old} e c =

@@ -12,6 +12,7 @@ use params::RadonDetectorParams;
 use params::Working;
 use peak_fit::fit_peak_frac;
 use saddle::new;
+use sizes::lesser;
 use verdict::Scan;
 use verdict::is_kept;
 use verdict::judge_at;
@@ -162,12 +163,8 @@ pub fn find_peaks(resp: &[f32], image: &[u8], scan: Scan, list: &mut [f32]) -> u
     ensures { λ n. ⌜ Found scan (now (resp .entry)) (now (image .entry)) (now (list .entry)) n (now (list .exit)) ⌝ }
 {
     let b = border(scan.params);
-    let w = scan.w;
     let h = scan.h;
-    if w <= 2 * b {
-        return 0;
-    }
-    if h <= 2 * b {
+    if lesser(scan.w, h) <= 2 * b {
         return 0;
     }
     let ey = h - b;
