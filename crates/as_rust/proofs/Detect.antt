@@ -27,10 +27,11 @@ use Rattle.scalar.specs.Log.{logOf, terms, high}
 use Rattle.scalar.specs.declared.Log.the-variants.{Value}
 use Rattle.peak_fit.specs.PeakFit.{flat, denominator, usable, allUsable, allAbove, fitOf}
 use Rattle.grid.specs.Ways.{value}
-use Rattle.detect.specs.Window.{beaten, positives}
+use Rattle.verdict.specs.Window.{beaten, positives}
 use Rattle.saddle.specs.declared.Saddle.{Saddle}
-use Rattle.detect.specs.Maximum.{maximum}
-use Rattle.detect.specs.Corners.{borderOf, candidates, floorOf, firstFailing, bySaddle, isSaddle, isKept, verdict, corners, inputAt, numbers}
+use Rattle.crests.specs.Maximum.{maximum}
+use Rattle.verdict.specs.Verdict.{firstFailing, bySaddle, isSaddle, isKept, verdict}
+use Rattle.detect.specs.Corners.{borderOf, candidates, floorOf, corners, inputAt, numbers}
 use Rattle.peak_fit.proofs.AsRust.{rustClamp, rustPeak, fit-as-rust as clamped-fit}
 use Rattle.as_rust.specs.Machine.{Machine, Sound, _⊖_, _⊗_, _⊘_, lit-0, lit-1, lit-half, lit-minus-half}
 use Rattle.as_rust.specs.Machine.{clamp, maxℤ, i32, usize, as-i32, as-usize, as-f32, float-at}

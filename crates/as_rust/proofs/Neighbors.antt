@@ -17,7 +17,7 @@ use Rattle.grid.specs.Rect.{Place, place}
 use Rattle.grid.proofs.Rect.{before, length-before}
 use Rattle.float.proofs.Order.{lt-itself}
 use Rattle.grid.specs.Ways.{value}
-use Rattle.detect.specs.Window.{at, same, beaten, positives}
+use Rattle.verdict.specs.Window.{at, same, beaten, positives}
 use Rattle.as_rust.specs.Machine.{Machine, lit-0, is-0, i32, u32, float-at, for, how-many, for-signed, as-i32, as-usize}
 use Rattle.as_rust.specs.Neighbors.{outside, is-local-max, count-positive-neighbors}
 use Rattle.as_rust.proofs.Machine.{i32-is, i32-minus, i32-cast, u32-is, inside}

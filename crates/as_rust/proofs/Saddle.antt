@@ -22,7 +22,7 @@ use Rattle.grid.specs.Ways.{pixel}
 use Rattle.saddle.specs.Saddle.{noSums, noMoments, side, disk, inDisk, offset, around, overDisk, momentAdded, momentsOf, meanOf}
 use Rattle.saddle.specs.Saddle.{normAdded, normsOf, saddleOf, added, sumsOf, magnitude, squares, saddleAt, byCurvatures}
 use Rattle.saddle.specs.declared.Saddle.the-variants.{Yes, Flat, Curved}
-use Rattle.detect.specs.Corners.{isKept, bySaddle}
+use Rattle.verdict.specs.Verdict.{isKept, bySaddle}
 use Rattle.saddle.proofs.Rooted.{nearestRoot, spreadSquared, trace, never-outside, by-root}
 use Rattle.as_rust.specs.Machine.{Machine, Sound, _⊕_, _⊖_, _⊗_, _⊘_, lit-0, lit-minus-0, lit-1, lit-0·2, abs}
 use Rattle.as_rust.specs.Machine.{i64, as-usize, as-f32, as-f32-signed, wrapping-add-signed, byte-at}

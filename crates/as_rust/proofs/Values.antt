@@ -21,7 +21,7 @@ use Rattle.grid.proofs.Fold.{fold-more, fold-ext}
 use Rattle.grid.specs.Plane.{plane}
 use Rattle.peak_fit.specs.PeakFit.{greatest, usable}
 use Rattle.grid.specs.Ways.{value}
-use Rattle.detect.specs.Maximum.{greater, maximum}
+use Rattle.crests.specs.Maximum.{greater, maximum}
 use Rattle.as_rust.specs.Machine.{Machine, _⊗_, lit-0, lit-1, neg-infinity, max-f32, is-finite}
 use Rattle.as_rust.specs.Detect.{relative-floor, greatest as greatest-of}
 use Rattle.as_rust.proofs.Tests.{T-true}

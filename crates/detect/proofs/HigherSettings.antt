@@ -24,9 +24,10 @@ use Rattle.params.specs.Refusals.{listRefusal, mapRefusal}
 use Rattle.params.proofs.Accepted.{ListPasses, both-pass, list-passes}
 use Rattle.saddle.specs.declared.Saddle.{Saddle}
 use Rattle.saddle.specs.declared.Saddle.the-variants.{Yes, Flat, Curved}
-use Rattle.detect.specs.Window.{at, beaten, positives}
-use Rattle.detect.specs.Maximum.{maximum}
-use Rattle.detect.specs.Corners.{borderOf, candidates, floorOf, firstFailing, isSaddle, isKept, verdict, corners, numbers, stride}
+use Rattle.verdict.specs.Window.{at, beaten, positives}
+use Rattle.crests.specs.Maximum.{maximum}
+use Rattle.detect.specs.Corners.{borderOf, candidates, floorOf, corners, numbers, stride}
+use Rattle.verdict.specs.Verdict.{firstFailing, isSaddle, isKept, verdict}
 use Rattle.detect.specs.Detected.{workingRefusal, peaksRefusal, refusalFor, foundIn, listOf}
 use Rattle.detect.proofs.Scanning.{numbers-long}
 use Rattle.detect.proofs.Kept.{maximum-nonneg}

@@ -21,9 +21,10 @@ use Rattle.params.specs.declared.settings.RadonDetectorParams.{RadonDetectorPar
 use Rattle.params.specs.Settings.{rayOf}
 use Rattle.saddle.specs.Saddle.{saddleOf}
 use Rattle.saddle.proofs.Inside.{saddle-same}
-use Rattle.detect.specs.Maximum.{greater, maximum}
-use Rattle.detect.specs.Window.{at, window, same, beaten, positives}
-use Rattle.detect.specs.Corners.{borderOf, candidates, floorOf, firstFailing, isKept, verdict, corners, numbers, stride}
+use Rattle.crests.specs.Maximum.{greater, maximum}
+use Rattle.verdict.specs.Window.{at, window, same, beaten, positives}
+use Rattle.detect.specs.Corners.{borderOf, candidates, floorOf, corners, numbers, stride}
+use Rattle.verdict.specs.Verdict.{firstFailing, isKept, verdict}
 
 -- ---- the window
 

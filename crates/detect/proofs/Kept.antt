@@ -19,13 +19,14 @@ use Rattle.grid.proofs.Rect.{any-rect-none}
 use Rattle.params.specs.declared.settings.RadonDetectorParams.{RadonDetectorParams}
 use Rattle.params.specs.Answers.{numberOf}
 use Rattle.saddle.specs.declared.Saddle.the-variants.{Yes}
-use Rattle.detect.specs.declared.verdict.Verdict.the-variants.{NotAbove, Kept}
-use Rattle.detect.specs.Maximum.{greater, maximum}
-use Rattle.detect.specs.Window.{at, beaten, positives}
-use Rattle.detect.specs.Corners.{borderOf, candidates, floorOf, isSaddle, isKept, verdict, corners}
+use Rattle.verdict.specs.declared.Verdict.the-variants.{NotAbove, Kept}
+use Rattle.crests.specs.Maximum.{greater, maximum}
+use Rattle.verdict.specs.Window.{at, beaten, positives}
+use Rattle.detect.specs.Corners.{borderOf, candidates, floorOf, corners}
+use Rattle.verdict.specs.Verdict.{isSaddle, isKept, verdict}
 use Rattle.detect.specs.Detected.{refusalFor, peaksOutcome}
 use Rattle.grid.specs.Ways.{pixel, value}
-use Rattle.detect.proofs.Greatest.{greatest-nonneg}
+use Rattle.crests.proofs.Greatest.{greatest-nonneg}
 
 -- ---- the count
 

@@ -1,7 +1,4 @@
 -- The facts that the proofs of the functions lean on, and those that are proved of the definitions alone.
-pub mod Passing
-pub mod Greatest
-pub mod Windows
 pub mod Scanning
 pub mod Allowing
 pub mod Kept

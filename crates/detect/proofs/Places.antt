@@ -17,8 +17,8 @@ use Rattle.grid.proofs.All.{all, all-keep, all-rect, InRect}
 use Rattle.params.specs.declared.settings.RadonDetectorParams.{RadonDetectorParams}
 use Rattle.params.specs.Settings.{factorOf}
 use Rattle.params.specs.Coordinates.{toInput}
-use Rattle.detect.specs.Window.{at}
-use Rattle.detect.specs.Maximum.{entry}
+use Rattle.verdict.specs.Window.{at}
+use Rattle.crests.specs.Maximum.{entry}
 use Rattle.peak_fit.specs.PeakFit.{half, minusHalf}
 use Rattle.detect.specs.Corners.{borderOf, corners, offsetX, offsetY, inputAt, numbers}
 use Rattle.peak_fit.proofs.Offsets.{Central, fit-central}

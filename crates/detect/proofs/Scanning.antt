@@ -1,10 +1,10 @@
--- A candidate's verdict, a turn of the scan, a row and all rows: the steps behind `verdict` and `peaks`. Assumes nothing.
+-- What is told of a candidate, a turn of the scan, a row and all rows: the steps behind `peaks`. Assumes nothing.
 use mathlib.Core.Path.{_≡_, refl, sym, ap, _∙_}
 use mathlib.Core.Logic.{_⊎_, inl, inr}
 use mathlib.Core.Bool.{Bool, true, false, not, _&&_, cond, true≢false}
-use Prim.Native.Nat.{ℕ, _+_, _-_, _*_, _/_, _≤_, _<_, _^_}
+use Prim.Native.Nat.{ℕ, _+_, _-_, _*_, _/_, _≤_, _<_, _^_, min}
+use native.Mathlib.Decide.{decLe}
 use native.Mathlib.Omega.{arith}
-use borrow.Author.Tests.{le-leb, lt-leb}
 use mathlib.Core.List.{List, [], _∷_}
 use native.Mathlib.Nat.{zero-mul, mul-zero, div-add-mod'}
 use lib.ListN.{length, getD, take, drop, length-take, length-drop}
@@ -23,50 +23,49 @@ use Rattle.grid.proofs.Rect.{Across, across-none, across-more, across-skip}
 use Rattle.grid.specs.Ways.{pixel, value}
 use Rattle.grid.specs.Over.{Listed, Onward}
 use Rattle.grid.proofs.Over.{listed-none, onward-none, onward-no, onward-full, onward-put}
+use Rattle.sizes.proofs.Fitting.{Square}
 use Rattle.params.specs.declared.settings.RadonDetectorParams.{RadonDetectorParams}
 use Rattle.params.specs.Settings.{rayOf}
 use Rattle.saddle.specs.declared.SaddleTest.{SaddleTest}
-use Rattle.saddle.specs.declared.Saddle.{Saddle}
-use Rattle.saddle.specs.declared.Saddle.the-variants.{Flat}
-use Rattle.detect.specs.declared.verdict.Verdict.{Verdict}
-use Rattle.detect.specs.declared.verdict.Verdict.the-variants.{NotAbove, Beaten, TooFew}
-use Rattle.detect.specs.declared.verdict.Scan.{Scan}
-use Rattle.saddle.specs.Saddle.{saddleOf, saddleNumbers, saddleAt, diskFits}
+use Rattle.verdict.specs.declared.Verdict.{Verdict}
+use Rattle.verdict.specs.declared.Verdict.the-variants.{NotAbove}
+use Rattle.verdict.specs.declared.Scan.{Scan}
+use Rattle.saddle.specs.Saddle.{saddleNumbers}
 use Rattle.saddle.specs.Steps.{Around}
-use Rattle.saddle.proofs.Fitting.{numbers-plain, accepts-plain}
-use Rattle.detect.specs.Maximum.{entry, greater, greatestOf, maximum}
-use Rattle.detect.specs.Window.{at, beaten, positives}
-use Rattle.detect.specs.Crests.{over, crest, Reached}
-use Rattle.detect.specs.Corners.{candidates, floorOf, corners, firstFailing, bySaddle, isSaddle, isKept, verdict, stride, inputAt, numbers}
-use Rattle.detect.specs.Room.{Room, Cross}
-use Rattle.detect.specs.Scan.{scanOf, floorIn, verdictIn, keptIn, numbersIn, fitAround, borderIn, rowsAbove}
+use Rattle.saddle.proofs.Fitting.{numbers-plain}
+use Rattle.crests.specs.Maximum.{entry, greater, greatestOf, maximum}
+use Rattle.verdict.specs.Window.{at, beaten, positives}
+use Rattle.crests.specs.Crests.{over, crest, Sought}
+use Rattle.crests.proofs.Passing.{sought-plain, not-worth}
+use Rattle.detect.specs.Corners.{candidates, floorOf, corners, stride, numbers}
+use Rattle.verdict.specs.Verdict.{firstFailing, isSaddle, isKept, verdict, windowFits, firstFailingIn}
+use Rattle.verdict.specs.Room.{Cross}
+use Rattle.detect.specs.Scan.{scanOf, floorIn, verdictIn, keptIn, numbersIn, fittedAt, borderIn, rowsAbove}
 use Rattle.detect.specs.Scan.{Asked, Judging, Candidate, Finding, NextInRow, Entered, RowFound, Found}
-use Rattle.detect.proofs.Windows.{cross}
+use Rattle.verdict.proofs.Windows.{cross}
+use Rattle.verdict.proofs.Rules.{room, judged-plain}
 
 -- ---- a candidate lies far enough inside
 
 module _ {s : Scan} {x y resp image : ℕ} (c : Candidate s x y resp image) where
-  -- for all windows up to radius r
-  inner-room : (r : ℕ) → r ≤ borderIn s → Room (s .w) (s .h) r x y resp
-  inner-room r b =
+  -- for all squares up to radius r, in a buffer of n entries
+  inner : (r n : ℕ) → r ≤ borderIn s → s .w * s .h ≤ n → Square r n (s .w) (s .h) x y
+  inner r n b room =
       let a = c .judging .asked in
       record {
-        wide = a .wide;
-        high = a .high;
+        map = record { wide = a .wide; high = a .high; inside = room };
         left = omega arith;
         right = omega arith;
         above = omega arith;
         below = omega arith;
-        holds = a .response;
-        row = c .row;
       }
 
   -- its suppression window
-  pub window-room : Room (s .w) (s .h) (s .params .«nms_radius») x y resp
-  window-room = inner-room (s .params .«nms_radius») (omega arith)
+  window-room : Square (s .params .«nms_radius») resp (s .w) (s .h) x y
+  window-room = inner (s .params .«nms_radius») resp (omega arith) (c .judging .asked .response)
 
   -- the disk of the saddle test
-  pub disk-room : Around (rayOf (s .params .«ray_radius»)) image (s .w) (s .h) x y
+  disk-room : Around (rayOf (s .params .«ray_radius»)) image (s .w) (s .h) x y
   disk-room =
       let a = c .judging .asked in
       record {
@@ -79,46 +78,12 @@ module _ {s : Scan} {x y resp image : ℕ} (c : Candidate s x y resp image) wher
 
   -- its nearest
   pub near : Cross (s .w) x y resp
-  near = cross (inner-room 1 (omega arith)) (omega arith)
+  near = cross (room (inner 1 resp (omega arith) (c .judging .asked .response))) (omega arith)
 
--- ---- the verdict, from what each callee ensures and what the test of it said
-
-module _ (s : Scan) (resp : List Float) (image : List ℕ) (x y : ℕ) where
-  abbrev here : Place
-  here = place x y
-
-  abbrev map : ℕ → ℕ → Float
-  map = value resp (s .w)
-
-  -- the four rules' answers a, m, e and d, of which those that are not reached may be any
-  rules : {a m e : Bool} {d : Saddle} {r : Verdict} → lt (s .floor) (map x y) ≡ a → not (beaten map (s .params .«nms_radius») here) ≡ m
-      → leb (s .params .«min_cluster_size») (positives map (s .params .«nms_radius») here) ≡ e
-      → isSaddle (s .params) (pixel image (s .w)) here ≡ d → r ≡ firstFailing a m e d → r ≡ verdictIn s resp image here
-  unfolding verdict
-  rules a m e d r = rw (a, m, e, d) r
-
-  pub not-above : lt (s .floor) (map x y) ≡ false → NotAbove ≡ verdictIn s resp image here
-  not-above a = rules a refl refl refl refl
-
-  module _ (a : lt (s .floor) (map x y) ≡ true) {m : Bool} (b : m ≡ not (beaten map (s .params .«nms_radius») here)) where
-    pub is-beaten : m ≡ false → Beaten ≡ verdictIn s resp image here
-    is-beaten t = rules a (sym b ∙ t) refl refl refl
-
-    module _ (t : m ≡ true) {n : ℕ} (c : n ≡ positives map (s .params .«nms_radius») here) where
-      enough : {e : Bool} → leb (s .params .«min_cluster_size») n ≡ e
-          → leb (s .params .«min_cluster_size») (positives map (s .params .«nms_radius») here) ≡ e
-      enough u = rw (← c) u
-
-      pub too-few : n < s .params .«min_cluster_size» → TooFew ≡ verdictIn s resp image here
-      too-few u = rules a (sym b ∙ t) (enough (lt-leb _ _ u)) refl refl
-
-      pub as-saddle : {k : ℕ} {d : Saddle} {r : Verdict} → s .params .«min_cluster_size» ≤ n
-          → s .test ≡ saddleOf (rayOf (s .params .«ray_radius»)) → k ≡ rayOf (s .params .«ray_radius»)
-          → Around (rayOf (s .params .«ray_radius»)) (length image) (s .w) (s .h) x y
-          → d ≡ cond (diskFits k (length image) (s .w) (s .h) x y) (saddleAt (s .test) k (pixel image (s .w)) x y) Flat
-          → r ≡ bySaddle d → r ≡ verdictIn s resp image here
-      as-saddle {d = q} u f g o d r =
-          rules {d = q} a (sym b ∙ t) (enough (le-leb _ _ u)) (sym (accepts-plain o _ (pixel image (s .w)) (rw (f, g) at d))) r
+-- so what is told of it is its verdict
+pub judged-is : (s : Scan) (resp : List Float) (image : List ℕ) (x y : ℕ) {v : Verdict} → Candidate s x y (length resp) (length image)
+    → v ≡ cond (windowFits s (length resp) x y) (firstFailingIn s resp image x y) NotAbove → v ≡ verdictIn s resp image (place x y)
+judged-is s resp image x y c e = judged-plain s resp image x y (window-room c) (disk-room c) (c .judging .test) e
 
 -- ---- a corner's numbers, stored
 
@@ -136,17 +101,16 @@ module _ (s : Scan) (l r : List Float) (n x y : ℕ) (k : Cross (s .w) x y (leng
   abbrev centre : ℕ
   centre = y * s .w + x
 
-  pub stored : {fx fy a b : Float} {new : List Float}
-      → fx ≡ fitAround (s .params .«peak_fit») r centre 1 → fy ≡ fitAround (s .params .«peak_fit») r centre (s .w)
-      → a ≡ inputAt (s .params .«image_upsample») x fx → b ≡ inputAt (s .params .«image_upsample») y fy
+  pub stored : {a b : Float} {new : List Float}
+      → a ≡ fittedAt (s .params) r centre 1 (entry r centre) x → b ≡ fittedAt (s .params) r centre (s .w) (entry r centre) y
       → new ≡ sets l (stride * n) (a ∷ b ∷ entry r centre ∷ []) → new ≡ sets l (stride * n) (numbersIn s r (place x y))
   unfolding numbers
-  stored e1 e2 e3 e4 all =
+  stored e1 e2 all =
       let i : centre - 1 ≡ y * s .w + (x - 1) = omega arith in
       let j : centre + 1 ≡ y * s .w + (x + 1) = omega arith in
       let u : centre - s .w ≡ (y - 1) * s .w + x = omega arith in
       let d : centre + s .w ≡ (y + 1) * s .w + x = omega arith in
-      rw (e3, e4, e1, e2, i, j, u, d) at all
+      rw (e1, e2, i, j, u, d) at all
 
 -- ---- a candidate that is judged, by what was said of it
 
@@ -233,12 +197,14 @@ module _ (s : Scan) (resp : List Float) (y : ℕ) (fits : y * s .w + s .w ≤ le
           low-out (s .params) (s .floor) (value resp (s .w)) (pixel image (s .w)) (place k y)
           (rw (row-value resp (s .w) y fits k (omega arith)) at t)
 
-  pub next-is : {a e i r : ℕ} → 1 ≤ a → e < s .w → r ≡ s .params .«nms_radius» → Reached r (s .floor) row a e i → NextInRow s resp y a e i
-  next-is b l q t = record {
-    least = t .least;
-    most = t .most;
-    none = λ image k u v. passed-out image k (omega arith) (omega arith) (rw q at (t .none k u v));
-  }
+  pub next-is : {a e i : ℕ} → 1 ≤ a → a ≤ e → e < s .w → Sought (s .params .«nms_radius») (s .floor) row a e i → NextInRow s resp y a e i
+  next-is b h l t =
+      let n = sought-plain b h (omega (arith, row-length resp (s .w) y fits)) t in
+      record {
+        least = n .least;
+        most = n .most;
+        none = λ image k u v. passed-out image k (omega arith) (omega arith) (not-worth (s .params .«nms_radius») (s .floor) row k (n .none k u v));
+      }
 
 -- two stretches, one after the other
 onward-on : {A B : Type 0} {k : ℕ} {f : A → List B} {p : A → Bool} {mid out new : List B} {m n r : ℕ} {l₀ l l′ : List A}
@@ -332,15 +298,14 @@ empty : {A : Type 0} (l : List A) → length l ≡ 0 → l ≡ []
 empty [] e = refl
 empty (a ∷ l) e = absurd (omega arith)
 
-too-small : (w h b : ℕ) → (w ≤ 2 * b) ⊎ (h ≤ 2 * b) → candidates w h b ≡ []
-too-small w h b c =
-    let z : length (candidates w h b) ≡ 0 = length-rect b (w - b) b (h - b) ∙ elim c [
-      | inl k ↦ ap (λ (i : ℕ). i * (h - b - b)) (omega arith) ∙ zero-mul (h - b - b)
-      | inr k ↦ ap (λ (i : ℕ). (w - b - b) * i) (omega arith) ∙ mul-zero (w - b - b)
-    ] in
-    empty (candidates w h b) z
+too-small : (w h b : ℕ) → min w h ≤ 2 * b → candidates w h b ≡ []
+too-small w h b c = empty (candidates w h b) (length-rect b (w - b) b (h - b) ∙ none (decLe w (2 * b)))
+  where
+    none : Dec (w ≤ 2 * b) → (w - b - b) * (h - b - b) ≡ 0
+    none (yes k) = ap (λ (i : ℕ). i * (h - b - b)) (omega arith) ∙ zero-mul (h - b - b)
+    none (no k) = ap (λ (i : ℕ). (w - b - b) * i) (omega arith) ∙ mul-zero (w - b - b)
 
-pub none-found : {s : Scan} {resp : List Float} {image : List ℕ} {old : List Float} {b : ℕ} → b ≡ borderIn s → (s .w ≤ 2 * b) ⊎ (s .h ≤ 2 * b)
+pub none-found : {s : Scan} {resp : List Float} {image : List ℕ} {old : List Float} {b : ℕ} → b ≡ borderIn s → min (s .w) (s .h) ≤ 2 * b
     → Found s resp image old 0 old
 unfolding corners
 none-found {s} {resp} {image} {old} e c =

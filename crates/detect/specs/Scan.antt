@@ -8,15 +8,15 @@ use lib.Ieee.{Float}
 use Rattle.grid.specs.Rect.{Place, place, rect}
 use Rattle.grid.specs.Ways.{pixel, value}
 use Rattle.grid.specs.Over.{written, Onward}
-use Rattle.params.specs.declared.settings.PeakFitMode.{PeakFitMode}
 use Rattle.params.specs.declared.settings.RadonDetectorParams.{RadonDetectorParams}
 use Rattle.params.specs.Settings.{rayOf}
-use Rattle.detect.specs.declared.verdict.Verdict.{Verdict}
-use Rattle.detect.specs.declared.verdict.Scan.{Scan}
+use Rattle.verdict.specs.declared.Verdict.{Verdict}
+use Rattle.verdict.specs.declared.Scan.{Scan}
 use Rattle.saddle.specs.Saddle.{saddleOf}
 use Rattle.peak_fit.specs.PeakFit.{fitOf}
-use Rattle.detect.specs.Maximum.{entry}
-use Rattle.detect.specs.Corners.{borderOf, floorOf, isKept, verdict, corners, stride, numbers}
+use Rattle.crests.specs.Maximum.{entry}
+use Rattle.detect.specs.Corners.{borderOf, floorOf, corners, stride, inputAt, numbers}
+use Rattle.verdict.specs.Verdict.{isKept, verdict}
 
 -- ---- what a scan goes by, and what that says of a place over the map and the image in two buffers
 
@@ -41,9 +41,9 @@ keptIn c resp image p = isKept (verdictIn c resp image p)
 abbrev pub numbersIn : Scan → List Float → Place → List Float
 numbersIn c resp p = numbers (c .params) (value resp (c .w)) p
 
--- the offset along one axis of a peak at entry c, from the entries `step` before and after
-abbrev pub fitAround : PeakFitMode → List Float → ℕ → ℕ → Float
-fitAround mode resp c step = fitOf mode (entry resp (c - step)) (entry resp c) (entry resp (c + step))
+-- along one axis, the place of a peak of value v at entry c and pixel `p`, from the entries `step` before and after
+abbrev pub fittedAt : RadonDetectorParams → List Float → ℕ → ℕ → Float → ℕ → Float
+fittedAt s resp c step v p = inputAt (s .«image_upsample») p (fitOf (s .«peak_fit») (entry resp (c - step)) v (entry resp (c + step)))
 
 -- the corners of the map and the image
 abbrev pub cornersIn : Scan → List Float → List ℕ → List Place

@@ -1,9 +1,5 @@
 // The list: which pixels of the map are corners, and where between the pixels each one lies.
-mod crests;
-mod maximum;
-mod neighbors;
 mod peaks;
-mod verdict;
 
 use params::Answer;
 use params::Outcome;
@@ -50,11 +46,11 @@ fn judge_call(w: usize, h: usize, params: RadonDetectorParams, room: usize) -> A
     map.or_else(list.or_else(lent))
 }
 
-// Whether as many corners were stored as found.
-fn full_or(found: usize, stored: usize) -> Answer
-    ensures { λ r. ⌜ r ≡ fullOr found stored ⌝ }
+// Whether all corners that were found have room.
+fn full_or(found: usize, room: usize) -> Answer
+    ensures { λ r. ⌜ r ≡ fullOr found room ⌝ }
 {
-    if found <= stored {
+    if found <= room {
         return Answer::Complete;
     }
     Answer::ListFull
@@ -78,9 +74,8 @@ pub fn detect_peaks_from_radon(
     }
     let scan = scan_of(response, w, h, params);
     let found = find_peaks(response, image, scan, list);
-    let stored = lesser(found, list.len() / 3);
     Outcome {
-        answer: full_or(found, stored),
+        answer: full_or(found, list.len() / 3),
         count: found,
         w,
         h,

@@ -5,26 +5,26 @@
 // last. `next_in_row` takes it from one place to the next that may be kept: a run of values at or under the floor, or less than a
 // neighbour in the row, is passed over unjudged, since no such place is kept. Where it stops, `list_if_kept` judges the candidate by all
 // rules. A kept one is counted, and while the list has room its three numbers are stored as the next of the list.
-use super::crests::next_candidate;
-use super::maximum::max_response;
-use super::verdict::Scan;
-use super::verdict::is_kept;
-use super::verdict::judge_at;
+use crests::max_response;
+use crests::next_candidate;
 use params::Input;
-use params::PeakFitMode;
 use params::RadonDetectorParams;
 use params::Working;
 use peak_fit::fit_peak_frac;
 use saddle::new;
+use sizes::lesser;
+use verdict::Scan;
+use verdict::is_kept;
+use verdict::judge_at;
 ghost use mathlib.Core.Path.{_≡_};
 ghost use Prim.Native.Nat.{_+_, _*_, _/_, _<_, _≤_};
 ghost use mathlib.Core.List.{[], _∷_};
 ghost use lib.ListN.{length};
 ghost use lib.Seq.{sets};
 ghost use Rattle.grid.specs.Rect.{place};
-ghost use Rattle.detect.specs.Corners.{borderOf, stride, inputAt};
-ghost use Rattle.detect.specs.Room.{Cross};
-ghost use Rattle.detect.specs.Scan.{scanOf, floorIn, fitAround, numbersIn, Judging, Candidate, Finding, NextInRow, Entered, RowFound, Found};
+ghost use Rattle.detect.specs.Corners.{borderOf, stride};
+ghost use Rattle.verdict.specs.Room.{Cross};
+ghost use Rattle.detect.specs.Scan.{scanOf, floorIn, fittedAt, numbersIn, Judging, Candidate, Finding, NextInRow, Entered, RowFound, Found};
 
 // How far candidates stay from every edge: the window, the rays and one pixel for the fit lie inside.
 fn border(params: RadonDetectorParams) -> usize
@@ -33,20 +33,21 @@ fn border(params: RadonDetectorParams) -> usize
     params.ray_radius_clamped() as usize + params.nms_radius as usize + 1
 }
 
-// The offset of a peak at c from its two neighbours, `step` before and after.
-fn fitted(resp: &[f32], c: usize, step: usize, mode: PeakFitMode) -> f32
-    requires { ⌜ (step ≤ c) × (c + step < length (now resp)) ⌝ }
-    ensures { λ r. ⌜ r ≡ fitAround mode (now (resp .entry)) c step ⌝ }
+// Along one axis, a peak of value v at entry c and pixel `at`, in the input image: its offset is fitted to the entries `step` before and after.
+fn fitted(
+    resp: &[f32],
+    c: usize,
+    step: usize,
+    v: f32,
+    params: RadonDetectorParams,
+    at: usize,
+) -> Input
+    requires { ⌜ (step ≤ c) × (c + step < length (now resp)) × (at ≤ 8192) ⌝ }
+    ensures { λ r. ⌜ r .0 ≡ fittedAt params (now (resp .entry)) c step v at ⌝ }
 {
-    fit_peak_frac(resp[c - step], resp[c], resp[c + step], mode)
-}
-
-// A pixel and its offset, in the input image.
-fn input_at(up: u32, c: usize, offset: f32) -> Input
-    requires { ⌜ c ≤ 8192 ⌝ }
-    ensures { λ r. ⌜ r .0 ≡ inputAt up c offset ⌝ }
-{
-    Working(c as f32 + offset).to_input(up)
+    let mode = params.peak_fit;
+    let offset = fit_peak_frac(resp[c - step], v, resp[c + step], mode);
+    Working(at as f32 + offset).to_input(params.image_upsample)
 }
 
 // Three numbers as corner n of the list. Its place is in input pixels: a working coordinate is not taken.
@@ -67,12 +68,11 @@ fn put_corner(list: &mut [f32], n: usize, resp: &[f32], scan: Scan, x: usize, y:
 {
     let w = scan.w;
     let c = y * w + x;
+    let v = resp[c];
     let params = scan.params;
-    let mode = params.peak_fit;
-    let fx = fitted(resp, c, 1, mode);
-    let fy = fitted(resp, c, w, mode);
-    let up = params.image_upsample;
-    store(list, n, input_at(up, x, fx), input_at(up, y, fy), resp[c]);
+    let px = fitted(resp, c, 1, v, params, x);
+    let py = fitted(resp, c, w, v, params, y);
+    store(list, n, px, py, v);
 }
 
 // The candidate at (x, y), after n corners: judged and, if it is kept, stored where there is room. How many corners there are then.
@@ -163,12 +163,8 @@ pub fn find_peaks(resp: &[f32], image: &[u8], scan: Scan, list: &mut [f32]) -> u
     ensures { λ n. ⌜ Found scan (now (resp .entry)) (now (image .entry)) (now (list .entry)) n (now (list .exit)) ⌝ }
 {
     let b = border(scan.params);
-    let w = scan.w;
     let h = scan.h;
-    if w <= 2 * b {
-        return 0;
-    }
-    if h <= 2 * b {
+    if lesser(scan.w, h) <= 2 * b {
         return 0;
     }
     let ey = h - b;

@@ -29,7 +29,7 @@ use Rattle.response.proofs.MapFacts.{SameWritten, same-written}
 use Rattle.upsample.proofs.RoundedQuarter.{work-doubled, work-copied}
 use Rattle.response.proofs.Places.{raw-squared, raw-border, unblurred, map-fits}
 use Rattle.response.proofs.Beyond.{Stays, stays}
-use Rattle.detect.specs.Maximum.{entry}
+use Rattle.crests.specs.Maximum.{entry}
 use Rattle.detect.specs.Corners.{stride}
 use Rattle.detect.proofs.HigherSettings.{raised}
 use Rattle.detect.proofs.Places.{OnFrame}

@@ -28,8 +28,8 @@ use Rattle.params.proofs.Accepted.{all-accepted}
 use Rattle.response.specs.Map.{roomOf, sideOf, mapOf}
 use Rattle.response.proofs.MapFacts.{SameWritten, same-written, map-number}
 use Rattle.response.proofs.Runs.{Runs}
-use Rattle.detect.specs.Window.{at}
-use Rattle.detect.specs.Maximum.{entry}
+use Rattle.verdict.specs.Window.{at}
+use Rattle.crests.specs.Maximum.{entry}
 use Rattle.detect.specs.Corners.{corners, numbers, stride}
 use Rattle.detect.specs.Detected.{fullOr}
 use Rattle.detect.proofs.Scanning.{numbers-long}

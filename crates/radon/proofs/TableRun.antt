@@ -21,11 +21,12 @@ use Rattle.upsample.specs.Upsample.{workAt}
 use Rattle.rays.specs.Response.{raySpread, square, responseAt}
 use Rattle.blur.specs.Blur.{blurAt}
 use Rattle.response.specs.Map.{rawAt, mapAt, sideOf, mapOf}
-use Rattle.detect.specs.Window.{beaten, positives}
+use Rattle.verdict.specs.Window.{beaten, positives}
 use Rattle.saddle.specs.Saddle.{saddleOf, saddleAt, disk}
 use Rattle.peak_fit.specs.PeakFit.{fitOf}
-use Rattle.detect.specs.Maximum.{maximum}
-use Rattle.detect.specs.Corners.{corners, verdict, floorOf, inputAt, numbers}
+use Rattle.crests.specs.Maximum.{maximum}
+use Rattle.verdict.specs.Verdict.{verdict}
+use Rattle.detect.specs.Corners.{corners, floorOf, inputAt, numbers}
 use Rattle.radon.specs.Finder.{found}
 use Rattle.radon.proofs.TableP.{frame}
 

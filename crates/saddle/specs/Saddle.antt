@@ -2,14 +2,14 @@
 use mathlib.Core.Bool.{Bool, false, cond, _&&_}
 use mathlib.Core.List.{List, foldl}
 use Prim.Native.Nat.{ℕ, _+_, _-_, _*_, max}
-use lib.Dec.{ltb, leb}
+use lib.Dec.{leb}
 use lib.ListN.{length}
 use lib.IntN.{pos}
 use lib.Ieee.{Float, nan, inf, fin, binary32, ofBits, ofInt, minus, add, sub, mul, div, le}
 use Rattle.float.specs.Values.{f0, f1}
 use Rattle.grid.specs.Each.{keep}
 use Rattle.grid.specs.Rect.{Place, rect}
-use Rattle.sizes.specs.Fits.{fitsIn}
+use Rattle.sizes.specs.Fits.{squareFits}
 use Rattle.scalar.specs.Root.{rootOf}
 use Rattle.scalar.specs.declared.Root.{Root}
 use Rattle.scalar.specs.declared.Root.the-variants.{Value, Outside}
@@ -172,10 +172,6 @@ saddleAt t k f x y = judge t k (sumsOf t k f x y)
 
 -- ---- where the test can be made
 
--- k to either side of c lies between 0 and n
-abbrev pub clearOf : ℕ → ℕ → ℕ → Bool
-clearOf k c n = leb k c && ltb (c + k) n
-
 -- the square of side 2 k + 1 around x, y lies in an image w wide and h high, and the image in a buffer of n entries
 unfoldable pub diskFits : ℕ → ℕ → ℕ → ℕ → ℕ → ℕ → Bool
-diskFits k n w h x y = leb k 7 && (fitsIn w h n && (clearOf k x w && clearOf k y h))
+diskFits k n w h x y = leb k 7 && squareFits k n w h x y

@@ -9,7 +9,7 @@ ghost use Prim.Native.Nat.{_≤_, _<_};
 ghost use lib.ListN.{length};
 ghost use Rattle.grid.specs.Ways.{pixel};
 ghost use Rattle.saddle.specs.Saddle.{side, apart, offset, momentsOf, normsOf, saddleOf, saddleNumbers};
-ghost use Rattle.saddle.specs.Saddle.{sumsOf, byCurvatures, judge, saddleAt, clearOf, diskFits};
+ghost use Rattle.saddle.specs.Saddle.{sumsOf, byCurvatures, judge, saddleAt, diskFits};
 ghost use Rattle.saddle.specs.Steps.{Spans, Packs, Around, signless};
 use scalar::Root;
 
@@ -255,17 +255,10 @@ fn judged(t: SaddleTest, k: usize, s: Sums) -> Saddle
     }
 }
 
-// Whether k to either side of c lies between 0 and n.
-fn clear(k: usize, c: usize, n: usize) -> bool
-    ensures { λ r. ⌜ r ≡ clearOf k c n ⌝ }
-{
-    (k <= c) & (k < sizes::less(n, c))
-}
-
 fn disk_fits(k: usize, room: usize, w: usize, h: usize, x: usize, y: usize) -> bool
     ensures { λ r. ⌜ r ≡ diskFits k room w h x y ⌝ }
 {
-    (k <= 7) & (sizes::fits(w, h, room) & (clear(k, x, w) & clear(k, y, h)))
+    (k <= 7) & sizes::square_fits(k, room, w, h, x, y)
 }
 
 // Whether the image, w wide and h high, is a saddle around x, y. A disk that does not lie in the image tells nothing,

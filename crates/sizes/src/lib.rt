@@ -1,7 +1,7 @@
-// Sizes compared: the lesser and the larger of two, a difference that stops at 0, and whether a map fits into a buffer.
+// Sizes compared: the lesser and the larger of two, a difference that stops at 0, and whether a map fits into a buffer and a square into the map.
 ghost use mathlib.Core.Path.{_≡_};
 ghost use Prim.Native.Nat.{_-_, min, max};
-ghost use Rattle.sizes.specs.Fits.{fitsIn};
+ghost use Rattle.sizes.specs.Fits.{fitsIn, clearOf, squareFits};
 
 // Twice the input's longest side.
 const MAX_WORKING_SIDE: usize = 8192;
@@ -35,4 +35,18 @@ pub fn fits(w: usize, h: usize, room: usize) -> bool
         }
     }
     false
+}
+
+// Whether k to either side of c lies between 0 and n.
+fn clear(k: usize, c: usize, n: usize) -> bool
+    ensures { λ r. ⌜ r ≡ clearOf k c n ⌝ }
+{
+    (k <= c) & (k < less(n, c))
+}
+
+// Whether the square of side 2 k + 1 around x, y lies in a map w wide and h high, and the map in a buffer of `room` entries.
+pub fn square_fits(k: usize, room: usize, w: usize, h: usize, x: usize, y: usize) -> bool
+    ensures { λ r. ⌜ r ≡ squareFits k room w h x y ⌝ }
+{
+    fits(w, h, room) & (clear(k, x, w) & clear(k, y, h))
 }

@@ -1,6 +1,5 @@
 -- `detect::peaks::find_peaks` meets its contract. The invariant is `FoundTo`: what is found in the rows above. Assumes nothing.
 use Prim.Native.Nat.{_-_}
-use mathlib.Core.Logic.{inl, inr}
 use native.Mathlib.Omega.{arith}
 use Rattle.detect.proofs.Scanning.{FoundTo, found-none, found-more, found-all, none-found, finding}
 use borrow.Author.Needs.{needs}
@@ -8,10 +7,10 @@ use Rattle.detect.proofs.peaks.find_peaks.Statement.{statement}
 use Rattle.detect.proofs.peaks.find_peaks.Tie as tie
 
 abbrev Inv-loop : tie.InvT-loop
-Inv-loop resp image scan list₀ b w h ey count₀ y₀ list count y = FoundTo scan resp image list₀ list count y
+Inv-loop resp image scan list₀ b h ey count₀ y₀ list count y = FoundTo scan resp image list₀ list count y
 
 abbrev μ-loop : tie.MeasureT-loop
-μ-loop resp image scan list₀ b w h ey count₀ y₀ list count y = ey - y
+μ-loop resp image scan list₀ b h ey count₀ y₀ list count y = ey - y
 
 -- from the border back to the start
 abbrev start : tie.After-border Inv-loop μ-loop → tie.Start Inv-loop μ-loop
@@ -24,23 +23,20 @@ bordered c = c .before .before .before
 border-requires : tie.Need-border-requires Inv-loop μ-loop
 border-requires c κs = search needs
 
+lesser-requires : tie.Need-lesser-requires Inv-loop μ-loop
+lesser-requires c κs = search needs
+
 mul-if1 : tie.Need-mul-if1 Inv-loop μ-loop
 mul-if1 c = omega arith
 
 returns : tie.Need-returns Inv-loop μ-loop
-returns c = none-found (c .before .border .ensures) (inl (c .if1 .taken))
-
-mul-if2 : tie.Need-mul-if2 Inv-loop μ-loop
-mul-if2 c = omega arith
-
-returns-2 : tie.Need-returns-2 Inv-loop μ-loop
-returns-2 c = none-found (c .before .before .border .ensures) (inr (c .if2 .taken))
+returns c = none-found (c .before .before .border .ensures) (omega (arith, c .before .lesser .ensures))
 
 sub-ey : tie.Need-sub-ey Inv-loop μ-loop
 sub-ey c = omega arith
 
 loop-holds : tie.Need-loop-holds Inv-loop μ-loop
-loop-holds c = found-none (c .before .before .border .ensures) (omega arith)
+loop-holds c = found-none (c .before .before .border .ensures) (omega (arith, c .before .lesser .ensures))
 
 find-in-row-requires : tie.Need-find-in-row-requires Inv-loop μ-loop
 find-in-row-requires c κs =
@@ -62,8 +58,8 @@ loop-again c =
 same-length : tie.Need-same-length Inv-loop μ-loop
 same-length c = c .before .loop .inv .down .holds .long
 
-returns-3 : tie.Need-returns-3 Inv-loop μ-loop
-returns-3 c =
+returns-2 : tie.Need-returns-2 Inv-loop μ-loop
+returns-2 c =
     let l = c .before in
     found-all (l .loop .inv) (omega arith) (start (bordered l) .pre .1)
 
@@ -74,10 +70,9 @@ find-peaks-spec =
     Inv-loop
     μ-loop
     border-requires
+    lesser-requires
     mul-if1
     returns
-    mul-if2
-    returns-2
     sub-ey
     loop-holds
     find-in-row-requires
@@ -85,4 +80,4 @@ find-peaks-spec =
     loop-less
     loop-again
     same-length
-    returns-3)
+    returns-2)

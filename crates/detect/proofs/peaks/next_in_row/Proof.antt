@@ -1,7 +1,6 @@
 -- `detect::peaks::next_in_row` meets its contract: what the search passes over is not kept. Assumes nothing.
-use mathlib.Core.Path.{refl}
 use native.Mathlib.Omega.{arith}
-use Rattle.detect.proofs.Scanning.{row-length, next-is}
+use Rattle.detect.proofs.Scanning.{next-is}
 use borrow.Author.Needs.{needs}
 use Rattle.detect.proofs.peaks.next_in_row.Statement.{statement}
 use Rattle.detect.proofs.peaks.next_in_row.Tie as tie
@@ -31,14 +30,12 @@ abbrev start : tie.After-struct-known → tie.Start
 start c = c .before .before .before .before
 
 next-candidate-requires : tie.Need-next-candidate-requires
-next-candidate-requires c κs =
-    let o = start c in
-    omega (arith, row-length (o .args .resp .now) (o .args .scan .w) (o .args .y) (o .pre .3))
+next-candidate-requires c κs = search needs
 
 returns : tie.Need-returns
 returns c =
     let o = start (c .before) in
-    next-is (o .args .scan) (o .args .resp .now) (o .args .y) (o .pre .3) (o .pre .0) (o .pre .2) refl (c .next-candidate .ensures)
+    next-is (o .args .scan) (o .args .resp .now) (o .args .y) (o .pre .3) (o .pre .0) (o .pre .1) (o .pre .2) (c .next-candidate .ensures)
 
 pub next-in-row-spec : {M : Type 1} → statement M
 next-in-row-spec =

@@ -1,0 +1,70 @@
+-- Document 01, "Rules of the list": the verdict on a candidate; and what `judge_at` tells of a place by a scan's numbers.
+-- A map f and an image g are functions: f x y and g x y are what column x of row y has.
+use mathlib.Core.Bool.{Bool, true, false, not, cond}
+use Prim.Native.Nat.{ℕ}
+use mathlib.Core.List.{List}
+use lib.ListN.{length}
+use lib.Dec.{leb}
+use lib.Ieee.{Float, lt}
+use Rattle.grid.specs.Rect.{Place, place}
+use Rattle.grid.specs.Ways.{pixel, value}
+use Rattle.sizes.specs.Fits.{squareFits}
+use Rattle.params.specs.declared.settings.RadonDetectorParams.{RadonDetectorParams}
+use Rattle.params.specs.Settings.{rayOf}
+use Rattle.saddle.specs.declared.Saddle.{Saddle}
+use Rattle.saddle.specs.declared.Saddle.the-variants.{Yes, Flat, Curved}
+use Rattle.saddle.specs.Saddle.{saddleOf, saddleAt, diskFits}
+use Rattle.verdict.specs.declared.Verdict.{Verdict}
+use Rattle.verdict.specs.declared.Verdict.the-variants.{NotAbove, Beaten, TooFew, TooFlat, WrongCurvature, Kept}
+use Rattle.verdict.specs.declared.Scan.{Scan}
+use Rattle.verdict.specs.Window.{at, beaten, positives}
+
+-- ---- the verdict: the first rule that fails, or kept
+
+abbrev pub bySaddle : Saddle → Verdict
+bySaddle Yes = Kept
+bySaddle Flat = TooFlat
+bySaddle Curved = WrongCurvature
+
+-- "its value is above the floor, no value in its square suppression window is greater, the positive values there .. reach the least count,
+-- and the saddle test says yes"
+abbrev pub firstFailing : Bool → Bool → Bool → Saddle → Verdict
+firstFailing false greatest enough t = NotAbove
+firstFailing true false enough t = Beaten
+firstFailing true true false t = TooFew
+firstFailing true true true t = bySaddle t
+
+abbrev pub isSaddle : RadonDetectorParams → (ℕ → ℕ → ℕ) → Place → Saddle
+isSaddle s g p = saddleAt (saddleOf (rayOf (s .«ray_radius»))) (rayOf (s .«ray_radius»)) g (p .x) (p .y)
+
+unfoldable pub verdict : RadonDetectorParams → Float → (ℕ → ℕ → Float) → (ℕ → ℕ → ℕ) → Place → Verdict
+verdict s floor f g p =
+    firstFailing (lt floor (at f p)) (not (beaten f (s .«nms_radius») p)) (leb (s .«min_cluster_size») (positives f (s .«nms_radius») p))
+    (isSaddle s g p)
+
+abbrev pub isKept : Verdict → Bool
+isKept NotAbove = false
+isKept Beaten = false
+isKept TooFew = false
+isKept TooFlat = false
+isKept WrongCurvature = false
+isKept Kept = true
+
+-- ---- the same by the numbers of a scan, over the map and the image in two buffers
+
+-- its window lies in the map, and the map in a buffer of n entries
+abbrev pub windowFits : Scan → ℕ → ℕ → ℕ → Bool
+windowFits c n x y = squareFits (c .params .«nms_radius») n (c .w) (c .h) x y
+
+-- what the saddle test says with the scan's numbers, and where the disk does not fit
+abbrev pub saddleIn : Scan → List ℕ → ℕ → ℕ → Saddle
+saddleIn c image x y =
+    cond (diskFits (rayOf (c .params .«ray_radius»)) (length image) (c .w) (c .h) x y)
+    (saddleAt (c .test) (rayOf (c .params .«ray_radius»)) (pixel image (c .w)) x y)
+    Flat
+
+unfoldable pub firstFailingIn : Scan → List Float → List ℕ → ℕ → ℕ → Verdict
+firstFailingIn c resp image x y =
+    firstFailing (lt (c .floor) (value resp (c .w) x y)) (not (beaten (value resp (c .w)) (c .params .«nms_radius») (place x y)))
+    (leb (c .params .«min_cluster_size») (positives (value resp (c .w)) (c .params .«nms_radius») (place x y)))
+    (saddleIn c image x y)
