@@ -7,8 +7,7 @@ use Rattle.params.specs.declared.settings.PeakFitMode.the-variants.{Para
 use Rattle.params.specs.declared.settings.NumberedMode.{NumberedMode}
 use Rattle.params.specs.declared.settings.NumberedMode.the-variants.{Known, Refused}
 use Rattle.params.specs.declared.settings.RadonDetectorParams.{RadonDetectorParams}
-use Rattle.params.specs.declared.answers.Answer.{Answer}
-use Rattle.params.specs.declared.answers.Answer.the-variants.{Complete, Mode}
+use Rattle.params.specs.declared.answers.Answer.the-variants.{Mode}
 
 -- "Upsampling 0 counts as 1, and 3 or more as 2"
 abbrev pub factorOf : ℕ → ℕ
@@ -21,11 +20,6 @@ rayOf r = max 1 r
 -- "The mode is parabolic or Gaussian"; by its number, "mode (0 parabolic, 1 Gaussian)" and "14 mode above 1"
 abbrev pub modeNumbered : ℕ → NumberedMode
 modeNumbered n = cond (eqb n 0) (Known Parabolic) (cond (eqb n 1) (Known Gaussian) (Refused Mode))
-
--- the answer by which a number is refused; one that has a mode is not refused
-abbrev pub modeRefusal : NumberedMode → Answer
-modeRefusal (Known m) = Complete
-modeRefusal (Refused a) = a
 
 -- "ray 4, upsampling 2, blur 1, Gaussian, 0.28, suppression 4, count 2": 0.28 is the nearest f32, 3E8F5C29
 abbrev pub defaults : RadonDetectorParams

@@ -1,7 +1,7 @@
 // The settings of a call, with their defaults, and what a number outside their range counts as.
 use crate::Answer;
 ghost use mathlib.Core.Path.{_≡_};
-ghost use Rattle.params.specs.Settings.{defaults, factorOf, rayOf, modeNumbered, modeRefusal};
+ghost use Rattle.params.specs.Settings.{defaults, factorOf, rayOf, modeNumbered};
 
 // How a peak is fitted between pixels.
 pub enum PeakFitMode {
@@ -26,18 +26,6 @@ impl PeakFitMode {
             0 => NumberedMode::Known(PeakFitMode::Parabolic),
             1 => NumberedMode::Known(PeakFitMode::Gaussian),
             _ => NumberedMode::Refused(Answer::Mode),
-        }
-    }
-}
-
-impl NumberedMode {
-    // The answer by which a number is refused. One that has a mode is not refused: that is answer 0.
-    pub fn refusal(self) -> Answer
-        ensures { λ r. ⌜ r ≡ modeRefusal self ⌝ }
-    {
-        match self {
-            NumberedMode::Known(_) => Answer::Complete,
-            NumberedMode::Refused(answer) => answer,
         }
     }
 }
