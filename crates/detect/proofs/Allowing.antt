@@ -3,13 +3,13 @@ use mathlib.Core.Path.{_≡_, refl, sym, ap, _∙_}
 use mathlib.Core.Bool.{Bool, true, false, _||_, cond}
 use Prim.Native.Nat.{ℕ, _*_, _/_, _≤_, min}
 use native.Mathlib.Omega.{arith}
-use borrow.Author.Tests.{ltb-false, eq-eqb, ne-eqb}
+use borrow.Author.Tests.{ltb-false, le-leb, lt-leb, leb-true, leb-false, eq-eqb, ne-eqb}
 use mathlib.Core.List.{List}
 use lib.ListN.{length}
-use lib.Dec.{ltb, eqb}
+use lib.Dec.{ltb, leb, eqb}
 use lib.Ieee.{Float}
 use Rattle.params.specs.declared.answers.Answer.{Answer}
-use Rattle.params.specs.declared.answers.Answer.the-variants.{Complete, SideTooLong, TooManyPixels}
+use Rattle.params.specs.declared.answers.Answer.the-variants.{Complete, ListFull, SideTooLong, TooManyPixels}
 use Rattle.params.specs.declared.answers.Outcome.{Outcome}
 use Rattle.params.specs.declared.settings.RadonDetectorParams.{RadonDetectorParams}
 use Rattle.params.specs.Answers.{numberOf, refused}
@@ -49,6 +49,17 @@ asked s w h a b e =
       response = omega arith;
       working = omega arith;
     }
+
+-- all are stored where all have room
+leb-min : (a b : ℕ) → leb a (min a b) ≡ leb a b
+leb-min a b = go (leb a b) refl
+  where
+    go : (t : Bool) → leb a b ≡ t → leb a (min a b) ≡ t
+    go true e = le-leb a (min a b) (omega (arith, leb-true a b e))
+    go false e = lt-leb a (min a b) (omega (arith, leb-false a b e))
+
+pub all-stored : (found room : ℕ) {n : ℕ} {r : Answer} → n ≡ min found room → r ≡ fullOr found n → r ≡ fullOr found room
+all-stored found room e f = f ∙ ap (fullOr found) e ∙ ap (λ (t : Bool). cond t Complete ListFull) (leb-min found room)
 
 -- ---- the two ends of a call, from the answer a of the judge and its number n
 

@@ -46,11 +46,11 @@ fn judge_call(w: usize, h: usize, params: RadonDetectorParams, room: usize) -> A
     map.or_else(list.or_else(lent))
 }
 
-// Whether all corners that were found have room.
-fn full_or(found: usize, room: usize) -> Answer
-    ensures { λ r. ⌜ r ≡ fullOr found room ⌝ }
+// Whether as many corners were stored as found.
+fn full_or(found: usize, stored: usize) -> Answer
+    ensures { λ r. ⌜ r ≡ fullOr found stored ⌝ }
 {
-    if found <= room {
+    if found <= stored {
         return Answer::Complete;
     }
     Answer::ListFull
@@ -74,8 +74,9 @@ pub fn detect_peaks_from_radon(
     }
     let scan = scan_of(response, w, h, params);
     let found = find_peaks(response, image, scan, list);
+    let stored = lesser(found, list.len() / 3);
     Outcome {
-        answer: full_or(found, list.len() / 3),
+        answer: full_or(found, stored),
         count: found,
         w,
         h,

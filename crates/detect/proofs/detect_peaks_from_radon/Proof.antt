@@ -1,11 +1,11 @@
 -- `detect::detect_peaks_from_radon` meets its contract: refused by the judge, or what the scan found. Assumes nothing.
 use mathlib.Core.Path.{_≡_, ap, _∙_}
-use Prim.Native.Nat.{_/_}
+use Prim.Native.Nat.{_/_, min}
 use lib.ListN.{length}
 use Rattle.detect.specs.Corners.{stride}
-use Rattle.detect.specs.Detected.{peaksRefusal, refusalFor, fullOr}
+use Rattle.detect.specs.Detected.{peaksRefusal, refusalFor}
 use Rattle.detect.specs.Scan.{Asked}
-use Rattle.detect.proofs.Allowing.{refuses, passes-on, answers}
+use Rattle.detect.proofs.Allowing.{refuses, passes-on, answers, all-stored}
 use Rattle.detect.proofs.Scanning.{judging}
 use borrow.Author.Needs.{needs}
 use Rattle.detect.proofs.detect_peaks_from_radon.Statement.{statement}
@@ -21,7 +21,7 @@ passed c = c .before .before .before
 
 -- and from the end back to the scan
 abbrev found : tie.After-full-or → tie.After-find-peaks
-found c = c .before .before .before
+found c = c .before .before .before .before
 
 -- what the judge said
 refusal : (c : tie.After-judge-call) → c .judge-call .result
@@ -69,6 +69,9 @@ find-peaks-requires c κs =
     let o = start (t .before .before) .args in
     judging (o .params) (o .w) (o .h) (o .response .now) (o .image .now) (c .before .scan-of .ensures) (asked t)
 
+lesser-requires-2 : tie.Need-lesser-requires-2
+lesser-requires-2 c κs = search needs
+
 full-or-requires : tie.Need-full-or-requires
 full-or-requires c κs = search needs
 
@@ -84,7 +87,8 @@ returns-2 c =
     let f = p .find-peaks in
     answers (o .params) (o .w) (o .h) (o .response .now) (o .image .now) (o .list .now)
     (refusal j) (t .before .number .ensures) (t .if1 .left) (p .before .before .scan-of .ensures) (f .ensures)
-    (c .full-or .ensures ∙ ap (λ n. fullOr (f .result) (n / stride)) (f .kept .1 .1 .1 .0))
+    (all-stored (f .result) (length (o .list .now) / stride)
+    (c .before .lesser2 .ensures ∙ ap (λ n. min (f .result) (n / stride)) (f .kept .1 .1 .1 .0)) (c .full-or .ensures))
 
 pub detect-peaks-from-radon-spec : {M : Type 1} → statement M
 detect-peaks-from-radon-spec =
@@ -97,6 +101,7 @@ detect-peaks-from-radon-spec =
     returns
     scan-of-requires
     find-peaks-requires
+    lesser-requires-2
     full-or-requires
     same-length
     returns-2)
