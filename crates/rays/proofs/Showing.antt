@@ -18,10 +18,11 @@ use Rattle.grid.specs.Ways.{Way, along, down, fall, rise, ray, Holds}
 use Rattle.grid.proofs.Ways.{run-ext, ray-most, ray-ext, ray-by, ray-deep, holds}
 use Rattle.grid.specs.Ways.{Entry, Reach, Inside, Deep, upTo}
 use Rattle.grid.proofs.Ways.{none-past, holds-at, endx, endy, lowx, lowy}
-use Rattle.rays.specs.Tables.{tableAt, tableOf}
+use Rattle.cumsums.specs.Tables.{tableAt, tableOf}
 use Rattle.rays.specs.Response.{responseAt}
+use Rattle.rays.specs.Lent.{Lent}
 use Rattle.rays.specs.Shown.{shown, entryAt, Between, Held}
-use Rattle.rays.proofs.Summed.{table-run, table-filled}
+use Rattle.cumsums.proofs.Summed.{table-run, table-filled}
 use Rattle.rays.proofs.Inner.{response-ext}
 
 module _ {f : ℕ → ℕ → ℕ} {w h : ℕ} {row : List ℕ} (s : Holds along f w h row) where
@@ -46,6 +47,13 @@ pub record Built (d : Way) (f : ℕ → ℕ → ℕ) (w h : ℕ) (old t : List �
   pub room : w * h ≤ length old
   pub is : t ≡ tableOf d f w h old
 
+-- all four, in the buffers lent
+pub record Four (f : ℕ → ℕ → ℕ) (w h : ℕ) (b : Lent) (row col falling rising : List ℕ) : Type 0 where
+  pub on-row : Built along f w h (b .row) row
+  pub on-col : Built down f w h (b .col) col
+  pub on-falling : Built fall f w h (b .falling) falling
+  pub on-rising : Built rise f w h (b .rising) rising
+
 module _ {f : ℕ → ℕ → ℕ} {w h : ℕ} where
   table-holds : {d : Way} {old t : List ℕ} → Built d f w h old t → Holds d f w h t
   table-holds {d} {old} b = holds d f w h old (b .room) (b .is ∙ table-filled f w d h old)
@@ -53,30 +61,30 @@ module _ {f : ℕ → ℕ → ℕ} {w h : ℕ} where
   table-long : {d : Way} {old t : List ℕ} → Built d f w h old t → w * h ≤ length t
   table-long {d} {old} b = omega (arith, b .room, length-fill _ _ old (b .is))
 
-  module _ {row₀ row : List ℕ} (p : Built along f w h row₀ row) where
-    pub tables-of : {col₀ col falling₀ falling rising₀ rising : List ℕ} → Built down f w h col₀ col
-        → Built fall f w h falling₀ falling → Built rise f w h rising₀ rising
-        → w ≤ 8192 → h ≤ 8192 → ((x y : ℕ) → f x y ≤ 4095) → Held w h row col falling rising
-    tables-of q s t u v m =
-        let same : (x y : ℕ) → x < w → y < h → f x y ≡ shown row w x y = λ x y a b. sym (shown-is (table-holds p) x y a b) in
-        record {
-          wide = u;
-          high = v;
-          row-long = table-long p;
-          col-long = table-long q;
-          falling-long = table-long s;
-          rising-long = table-long t;
-          most = λ x y a b. omega (arith, same x y a b, m x y);
-          rows = holds-ext (table-holds p) same;
-          columns = holds-ext (table-holds q) same;
-          falls = holds-ext (table-holds s) same;
-          rises = holds-ext (table-holds t) same;
-        }
+  pub tables-of : {b : Lent} {row col falling rising : List ℕ} → Four f w h b row col falling rising
+      → w ≤ 8192 → h ≤ 8192 → ((x y : ℕ) → f x y ≤ 4095) → Held w h row col falling rising
+  tables-of {row = row} t u v m =
+      let rows = table-holds (t .on-row) in
+      let same : (x y : ℕ) → x < w → y < h → f x y ≡ shown row w x y = λ x y a b. sym (shown-is rows x y a b) in
+      record {
+        wide = u;
+        high = v;
+        row-long = table-long (t .on-row);
+        col-long = table-long (t .on-col);
+        falling-long = table-long (t .on-falling);
+        rising-long = table-long (t .on-rising);
+        most = λ x y a b. omega (arith, same x y a b, m x y);
+        rows = holds-ext rows same;
+        columns = holds-ext (table-holds (t .on-col)) same;
+        falls = holds-ext (table-holds (t .on-falling)) same;
+        rises = holds-ext (table-holds (t .on-rising)) same;
+      }
 
-    -- the response of the image that is shown
-    pub response-shown : (r : ℕ) (old : List Float)
-        → filled (w * h) (plane w (responseAt (shown row w) w h r)) old ≡ filled (w * h) (plane w (responseAt f w h r)) old
-    response-shown r old = plane-ext w h _ _ old (λ x y a b. response-ext (shown row w) f w h r x y (shown-is (table-holds p)))
+  -- the response of the image that is shown
+  pub response-shown : {row₀ row : List ℕ} → Built along f w h row₀ row → (r : ℕ) (old : List Float)
+      → filled (w * h) (plane w (responseAt (shown row w) w h r)) old ≡ filled (w * h) (plane w (responseAt f w h r)) old
+  response-shown {row = row} p r old =
+      plane-ext w h _ _ old (λ x y a b. response-ext (shown row w) f w h r x y (shown-is (table-holds p)))
 
 -- ---- the rays
 
