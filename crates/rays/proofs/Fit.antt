@@ -37,7 +37,7 @@ abbrev pub fourOf : Lent → Tables
 fourOf b = tables (b .row) (b .col) (b .falling) (b .rising)
 
 module _ (w h r n : ℕ) (b : Lent) where
-  pub fitted : raysFit w h r n b ≡ true → Fitted w h r n b
+  fitted : raysFit w h r n b ≡ true → Fitted w h r n b
   fitted e =
       let a = both-true (leb r 7) (fitsIn w h (roomOf n b)) e in
       let f = fitting w h (roomOf n b) (a .1) in
@@ -78,6 +78,9 @@ module _ (w h r n : ℕ) (b : Lent) where
 module _ (f : ℕ → ℕ → ℕ) (w h r n : ℕ) (b : Lent) where
   pub when-not : {t : Bool} → t ≡ raysFit w h r n b → t ≡ false → b ≡ cond (raysFit w h r n b) (raysOf f w h r b) b
   when-not e q = rw (sym e ∙ q)
+
+  pub when-so : {t : Bool} → t ≡ raysFit w h r n b → t ≡ true → Fitted w h r n b
+  when-so e q = fitted w h r n b (sym e ∙ q)
 
   -- the tables as `build_cumsums` leaves them
   pub when-built : Fitted w h r n b → {row col falling rising : List ℕ}

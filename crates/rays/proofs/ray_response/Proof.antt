@@ -1,5 +1,4 @@
 -- `ray_response`: the passes one after the other, where the sizes fit. Assumes nothing.
-use mathlib.Core.Path.{sym, _∙_}
 use Prim.Native.Nat.{ℕ, _≤_}
 use native.Mathlib.Omega.{arith}
 use lib.ListN.{length}
@@ -8,7 +7,7 @@ use Rattle.grid.specs.Ways.{pixel}
 use Rattle.cumsums.proofs.Running.{pixel-most}
 use Rattle.rays.specs.Lent.{Lent, tabled}
 use Rattle.rays.proofs.Showing.{tables-of}
-use Rattle.rays.proofs.Fit.{Fitted, fitted, when-not, when-built, when-done}
+use Rattle.rays.proofs.Fit.{Fitted, when-so, when-not, when-built, when-done}
 use Rattle.rays.proofs.ray_response.Statement.{statement}
 use Rattle.rays.proofs.ray_response.Tie as tie
 
@@ -37,8 +36,8 @@ fit : (c : tie.Then1)
     Fitted (s .args .size .w) (s .args .size .h) (s .args .size .r) (length (s .args .img .now)) (lent s)
 fit c =
     let s = start (c .before) in
-    fitted (s .args .size .w) (s .args .size .h) (s .args .size .r) (length (s .args .img .now)) (lent s)
-    (sym (c .before .rays-fit .ensures) ∙ c .if1 .taken)
+    when-so (image s) (s .args .size .w) (s .args .size .h) (s .args .size .r) (length (s .args .img .now)) (lent s)
+    (c .before .rays-fit .ensures) (c .if1 .taken)
 
 small : (c : tie.After-shared-slice-known) (x y : ℕ) → image (c .before) x y ≤ 4095
 small c x y =
