@@ -3,5 +3,6 @@ pub mod Parts
 pub mod Inner
 pub mod SpreadExact
 pub mod Showing
+pub mod Reading
 pub mod Fit
 pub mod Alike

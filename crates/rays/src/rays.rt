@@ -80,10 +80,12 @@ fn radon_response_at(row: &[u32], col: &[u32], fall: &[u32], rise: &[u32], at: R
     let y = at.y;
     let x0 = x - r;
     let y0 = y - r;
-    let x1 = x + r + 1;
-    let y1 = y + r + 1;
-    let s_h = between(row, w, x0, y + 1, x1, y + 1);
-    let s_v = between(col, w, x + 1, y0, x + 1, y1);
+    let here_x = x + 1;
+    let here_y = y + 1;
+    let x1 = here_x + r;
+    let y1 = here_y + r;
+    let s_h = between(row, w, x0, here_y, x1, here_y);
+    let s_v = between(col, w, here_x, y0, here_x, y1);
     let s_d1 = between(fall, w, x0, y0, x1, y1);
     let s_d2 = between(rise, w, x1 + 1, y0, x0 + 1, y1);
     squared_spread(s_h, s_v, s_d1, s_d2)
@@ -151,13 +153,14 @@ fn deep_response(row: &[u32], col: &[u32], fall: &[u32], rise: &[u32], at: Row, 
     let w = at.w;
     let r = at.r;
     let y = at.y;
+    let past = r + 1;
     let here = y * w + x;
     let below = (y + r) * w + x;
-    let above = (y - r - 1) * w + x;
-    let s_h = difference(row, here + r, here - r - 1);
+    let above = (y - past) * w + x;
+    let s_h = difference(row, here + r, here - past);
     let s_v = difference(col, below, above);
-    let s_d1 = difference(fall, below + r, above - r - 1);
-    let s_d2 = difference(rise, below - r, above + r + 1);
+    let s_d1 = difference(fall, below + r, above - past);
+    let s_d2 = difference(rise, below - r, above + past);
     squared_spread(s_h, s_v, s_d1, s_d2)
 }
 
