@@ -1,12 +1,13 @@
 -- Laws of the passes that fill the tables, over the way: what a run of entries adds to a row, and a row to the rows above. Assumes nothing.
 use mathlib.Core.Path.{_≡_, refl, ap, _∙_}
+use mathlib.Core.Logic.{_⊎_, inl, inr}
 use mathlib.Core.List.{List}
-use Prim.Native.Nat.{ℕ, _+_, _-_, _*_, _≤_, _<_}
-use native.Mathlib.Nat.{mul-comm, zero-mul}
+use Prim.Native.Nat.{ℕ, _+_, _-_, _*_, _≤_, _<_, min}
+use native.Mathlib.Nat.{mul-comm, eq-zero-or-pos}
 use native.Mathlib.Omega.{arith}
 use lib.ListN.{length, getD}
 use Rattle.grid.specs.Fill.{filled}
-use Rattle.grid.proofs.Fill.{filled-zero, length-fill, getD-filled}
+use Rattle.grid.proofs.Fill.{length-fill, getD-filled}
 use Rattle.grid.specs.Plane.{plane}
 use Rattle.grid.proofs.Plane.{row-in, next-row, row-above, column-in, row-number-in}
 use Rattle.grid.proofs.Loops.{Rows, Row, row-none, row-read, rows-on, rows-join}
@@ -14,9 +15,7 @@ use Rattle.grid.specs.Span.{span}
 use Rattle.grid.proofs.Span.{row-span}
 use Rattle.grid.specs.Ways.{Way, along, down, fall, rise, pixel}
 use Rattle.cumsums.specs.Tables.{tableAt, tableOf}
-use Rattle.cumsums.specs.Passes.{Above, Carries, wayOf}
-use Rattle.cumsums.specs.declared.Diagonal.{Diagonal}
-use Rattle.cumsums.specs.declared.Diagonal.the-variants.{Falling, Rising}
+use Rattle.cumsums.specs.Passes.{Above, Carries}
 use Rattle.cumsums.proofs.Summed.{Begins, Goes, beforex, beforey, table-first, table-on, table-most}
 
 -- how many entries before a pixel's entry that of the pixel before it on the line stands
@@ -84,76 +83,113 @@ module _ (d : Way) (img : List ℕ) (w y : ℕ) (xs : List ℕ) where
       rw e (table-most (pixel img w) w d 255 8192 _ _ (pixel-most img w small) (column-in w (y + 1) l) (a .wide)
       (omega (arith, a .high, row-number-in w (y + 1) l)))
 
--- ---- a row of a diagonal table
+-- ---- a row of a diagonal table: n of its lines go on from the row above
 
--- the first row begins all
-pub top-row : (d : Diagonal) (img : List ℕ) (w y : ℕ) (xs : List ℕ) {zs : List ℕ} → Above (wayOf d) img w y xs → y ≡ 0
-    → zs ≡ span (y * w) (y * w + w - y * w) (λ i. getD img i 0) xs → zs ≡ tableOf (wayOf d) (pixel img w) w (y + 1) xs
-top-row d img w y xs a e z =
-    row-whole (wayOf d) img w y xs
-    (row-begun (wayOf d) img w y xs (row-start (wayOf d) img w y xs a) (omega arith) (omega arith) (omega arith) refl z
-    (λ x l m. at d x m))
-  where
-    at : (d : Diagonal) (x : ℕ) → x < w → Begins (wayOf d) w x y
-    at Falling x m = omega arith
-    at Rising x m = omega arith
+-- none does in the first row, and one begins in another
+pub record Going (w y n : ℕ) : Type 0 where
+  pub top : y ≡ 0 → n ≡ 0
+  pub lower : 0 < y → n ≡ w - 1
 
--- another: a falling diagonal begins in the first column, and goes on in the others
-module _ {d : Diagonal} (e : d ≡ Falling) (img : List ℕ) (w y : ℕ) (xs : List ℕ) (some : 0 < w) (lower : 0 < y)
-    (a : Above (wayOf d) img w y xs)
-    {ys : List ℕ} (b : ys ≡ span (y * w) (y * w + 1 - y * w) (λ i. getD img i 0) xs) where
-  fall-above : Above fall img w y xs
-  fall-above = rw e at a
+-- as the code finds it
+pub going-of : {w y d n : ℕ} → d ≡ w - 1 → (y ≡ 0 → n ≡ 0) × (0 < y → n ≡ d) → Going w y n
+going-of e p = record { top = p .0; lower = λ l. p .1 l ∙ e }
 
-  fall-begun : Filling fall img w y xs ys 1
+module _ {w y n : ℕ} (g : Going w y n) where
+  -- either none goes on, or the row is not the first and has columns
+  going-cases : (n ≡ 0) ⊎ ((0 < y) × (n ≡ w - 1) × (0 < w))
+  going-cases = elim (eq-zero-or-pos y) [
+    | inl e ↦ inl (g .top e)
+    | inr l ↦ elim (eq-zero-or-pos w) [ inl e ↦ inl (omega (arith, g .lower l)) | inr m ↦ inr (l, g .lower l, m) ]
+  ]
+
+  pub going-most : n ≤ w
+  going-most = elim going-cases [ inl e ↦ omega arith | inr e ↦ omega arith ]
+
+-- falling ones go on in the last columns
+module _ (img : List ℕ) (w y : ℕ) (xs : List ℕ) {n : ℕ} (g : Going w y n) (a : Above fall img w y xs)
+    {ys : List ℕ} (b : ys ≡ span (y * w) (y * w + w - n - y * w) (λ i. getD img i 0) xs) where
+  fall-begins : (x : ℕ) → x < w - n → min x y ≡ 0
+  fall-begins x l = elim (eq-zero-or-pos y) [ inl e ↦ omega arith | inr m ↦ omega (arith, g .lower m) ]
+
+  fall-goes : (x : ℕ) → w - n ≤ x → x < w → (0 < x) × (0 < y)
+  fall-goes x l m = elim (going-cases g) [ inl e ↦ absurd (omega arith) | inr e ↦ omega arith ]
+
+  fall-begun : Filling fall img w y xs ys (w - n)
   fall-begun =
-      row-begun fall img w y xs (row-start fall img w y xs fall-above) (omega arith) (omega arith) (omega arith) refl b
-      (λ x l m. omega arith)
+      row-begun fall img w y xs {lo = 0} {hi = w - n} (row-start fall img w y xs a) (omega arith) (omega arith) (omega arith)
+      (omega (arith, going-most g)) b (λ x l m. fall-begins x m)
 
-  pub fall-carries : ((k : ℕ) → getD img k 0 < 256) → Carries img ys (y * w + 1) (y * w + w) (w + 1)
-  fall-carries small =
-      let u = row-above w lower in
-      record {
-        run = omega arith;
-        least = omega arith;
-        apart = omega arith;
-        image = a .image;
-        room = omega (arith, a .room, fall-begun .steps .long);
-        small = λ k l m. row-fits fall img w y xs fall-begun fall-above small k (omega arith);
-      }
+  pub fall-carries : ((k : ℕ) → getD img k 0 < 256) → Carries img ys (y * w + w - n) (y * w + w) (w + 1)
+  fall-carries small = elim (going-cases g) [
+    | inl e ↦ record {
+      run = omega arith;
+      least = λ k l m. absurd (omega arith);
+      apart = omega arith;
+      image = a .image;
+      room = omega (arith, a .room, fall-begun .steps .long);
+      small = λ k l m. absurd (omega arith);
+    }
+    | inr e ↦
+        let u = row-above w (e .0) in
+        record {
+          run = omega arith;
+          least = λ k l m. omega arith;
+          apart = omega arith;
+          image = a .image;
+          room = omega (arith, a .room, fall-begun .steps .long);
+          small = λ k l m. row-fits fall img w y xs fall-begun a small k (omega arith);
+        }
+  ]
 
-  pub fall-row : {zs : List ℕ} → zs ≡ span (y * w + 1) (y * w + w - (y * w + 1)) (λ i. getD ys (i - (w + 1)) 0 + getD img i 0) ys
-      → zs ≡ tableOf (wayOf d) (pixel img w) w (y + 1) xs
+  pub fall-row : {zs : List ℕ}
+      → zs ≡ span (y * w + w - n) (y * w + w - (y * w + w - n)) (λ i. getD ys (i - (w + 1)) 0 + getD img i 0) ys
+      → zs ≡ tableOf fall (pixel img w) w (y + 1) xs
   fall-row z =
-      rw e (row-whole fall img w y xs
-      (row-carried fall img w y xs fall-begun (a .room) (omega arith) (omega arith) refl refl z (λ x l m. omega arith)))
+      row-whole fall img w y xs
+      (row-carried fall img w y xs {lo = w - n} {hi = w} fall-begun (a .room) (omega arith) (omega arith)
+      (omega (arith, going-most g)) refl z (λ x l m. (fall-goes x l m, omega (arith, fall-goes x l m))))
 
--- a rising one goes on in all columns but the last, and begins there
-module _ {d : Diagonal} (e : d ≡ Rising) (img : List ℕ) (w y : ℕ) (xs : List ℕ) (some : 0 < w) (lower : 0 < y)
-    (a : Above (wayOf d) img w y xs) where
-  rise-above : Above rise img w y xs
-  rise-above = rw e at a
+-- rising ones in the first, each from the entry w - 1 before
+module _ (img : List ℕ) (w y : ℕ) (xs : List ℕ) {n : ℕ} (g : Going w y n) (a : Above rise img w y xs)
+    {back : ℕ} (o : back ≡ w - 1) where
+  rise-begins : (x : ℕ) → n ≤ x → x < w → min y (w - 1 - x) ≡ 0
+  rise-begins x l m = elim (eq-zero-or-pos y) [ inl e ↦ omega arith | inr k ↦ omega (arith, g .lower k) ]
 
-  pub rise-carries : ((k : ℕ) → getD img k 0 < 256) → Carries img xs (y * w) (y * w + w - 1) (w - 1)
-  rise-carries small =
-      let u = row-above w lower in
-      record {
-        run = omega arith;
-        least = omega arith;
-        apart = omega arith;
-        image = omega (arith, a .image);
-        room = omega (arith, a .room);
-        small = λ k l m. row-fits rise img w y xs (row-start rise img w y xs rise-above) rise-above small k (omega arith);
-      }
+  rise-goes : (x : ℕ) → x < n → (0 < y) × (x + 1 < w)
+  rise-goes x l = elim (going-cases g) [ inl e ↦ absurd (omega arith) | inr e ↦ omega arith ]
 
-  pub rise-row : {ys zs : List ℕ} → ys ≡ span (y * w) (y * w + w - 1 - y * w) (λ i. getD xs (i - (w - 1)) 0 + getD img i 0) xs
-      → zs ≡ span (y * w + w - 1) (y * w + w - (y * w + w - 1)) (λ i. getD img i 0) ys
-      → zs ≡ tableOf (wayOf d) (pixel img w) w (y + 1) xs
+  pub rise-carries : ((k : ℕ) → getD img k 0 < 256) → Carries img xs (y * w) (y * w + n) back
+  rise-carries small = elim (going-cases g) [
+    | inl e ↦ record {
+      run = omega arith;
+      least = λ k l m. absurd (omega arith);
+      apart = omega arith;
+      image = omega (arith, a .image);
+      room = omega (arith, a .room);
+      small = λ k l m. absurd (omega arith);
+    }
+    | inr e ↦
+        let u = row-above w (e .0) in
+        record {
+          run = omega arith;
+          least = λ k l m. omega arith;
+          apart = omega arith;
+          image = omega (arith, a .image);
+          room = omega (arith, a .room);
+          small = λ k l m. row-fits rise img w y xs (row-start rise img w y xs a) a small k (omega arith);
+        }
+  ]
+
+  pub rise-row : {ys zs : List ℕ} → ys ≡ span (y * w) (y * w + n - y * w) (λ i. getD xs (i - back) 0 + getD img i 0) xs
+      → zs ≡ span (y * w + n) (y * w + w - (y * w + n)) (λ i. getD img i 0) ys
+      → zs ≡ tableOf rise (pixel img w) w (y + 1) xs
   rise-row p q =
-      let r = row-carried rise img w y xs {lo = 0} {hi = w - 1} (row-start rise img w y xs rise-above) (a .room)
-      (omega arith) (omega arith) (omega arith) (omega arith) p (λ x l m. omega arith) in
-      rw e (row-whole rise img w y xs
-      (row-begun rise img w y xs {hi = w} r (omega arith) (omega arith) (omega arith) refl q (λ x l m. omega arith)))
+      let c = p ∙ ap (λ (k : ℕ). span (y * w) (y * w + n - y * w) (λ i. getD xs (i - k) 0 + getD img i 0) xs) o in
+      let r = row-carried rise img w y xs {lo = 0} {hi = n} (row-start rise img w y xs a) (a .room)
+      (omega arith) (going-most g) (omega arith) refl c
+      (λ x l m. (rise-goes x m, omega (arith, rise-goes x m))) in
+      row-whole rise img w y xs
+      (row-begun rise img w y xs {lo = n} {hi = w} r (going-most g) (omega arith) refl refl q (λ x l m. rise-begins x l m))
 
 -- ---- the sum that is carried along a row: with the pixel at x it is the entry
 
@@ -177,12 +213,6 @@ module _ (img : List ℕ) (w y : ℕ) where
   carried-fits {x} c small l u v = rw (c .is) (table-most (pixel img w) w along 255 8192 x y (pixel-most img w small) l u v)
 
 -- ---- the loop over the rows
-
--- there are none to fill without a column
-pub no-column : (d : Way) (f : ℕ → ℕ → ℕ) (w h : ℕ) (xs : List ℕ) → w ≡ 0 → xs ≡ tableOf d f w h xs
-no-column d f w h xs e =
-    let n : w * h ≡ 0 = rw e (zero-mul h) in
-    rw n (filled-zero _ xs)
 
 module _ (d : Way) (img : List ℕ) (w h : ℕ) (xs : List ℕ) {ys : List ℕ} {y : ℕ}
     (r : Rows w h (tableAt d (pixel img w) w) xs ys y) (b : y < h) where

@@ -130,7 +130,7 @@ module _ (img : List ℕ) (w : ℕ) (xs : List ℕ) {a e y : ℕ} (r : Strip w (
       let s = row-above w o in
       record {
         run = omega arith;
-        least = omega arith;
+        least = λ k l m. omega arith;
         apart = omega (arith, r .inside);
         image = omega (arith, r .inside);
         room = omega (arith, r .inside);

@@ -1,5 +1,6 @@
 // The four tables: running sums of an image along its rows, columns, falling and rising diagonals. A row goes on from the one above.
 use sizes::fits;
+use sizes::less;
 use sizes::lesser;
 ghost use mathlib.Core.Path.{_≡_};
 ghost use mathlib.Core.Bool.{cond};
@@ -9,7 +10,7 @@ ghost use Rattle.grid.specs.Span.{span};
 ghost use Rattle.grid.specs.Ways.{pixel, along, down, fall, rise};
 ghost use Rattle.cumsums.specs.Tables.{tableAt, tableOf};
 ghost use Rattle.cumsums.specs.Lent.{tables, tablesOf, tablesFit};
-ghost use Rattle.cumsums.specs.Passes.{Above, Carries, Strip, wayOf};
+ghost use Rattle.cumsums.specs.Passes.{Above, Carries, Strip};
 
 // Entries a to e - 1, where lines begin.
 fn begin(img: &[u8], a: usize, e: usize, out: &mut [u32])
@@ -92,59 +93,53 @@ fn sat_col(img: &[u8], w: usize, h: usize, out: &mut [u32])
     }
 }
 
-// The diagonals that fall to the right, from (x - 1, y - 1), and those that rise, from (x + 1, y - 1).
-enum Diagonal {
-    Falling,
-    Rising,
+// How many of a row's diagonals go on from the row above, where below the first row n do.
+fn going(y: usize, n: usize) -> usize
+    ensures { λ m. ⌜ ((y ≡ 0) → (m ≡ 0)) × ((0 < y) → (m ≡ n)) ⌝ }
+{
+    if y == 0 { 0 } else { n }
 }
 
-// The first row begins one in each column, another in the first column or the last.
-fn diagonal_row(img: &[u8], w: usize, y: usize, d: Diagonal, out: &mut [u32])
-    requires { ⌜ (0 < w) × Above (wayOf d) (now img) w y (now out) ⌝ }
-    ensures { λ _. ⌜ now (out .exit) ≡ tableOf (wayOf d) (pixel (now (img .entry)) w) w (y + 1) (now (out .entry)) ⌝ }
+// Row y of the diagonals that fall to the right, from (x - 1, y - 1): one begins in the first column, and in the first row each.
+fn falling_row(img: &[u8], w: usize, y: usize, out: &mut [u32])
+    requires { ⌜ Above fall (now img) w y (now out) ⌝ }
+    ensures { λ _. ⌜ now (out .exit) ≡ tableOf fall (pixel (now (img .entry)) w) w (y + 1) (now (out .entry)) ⌝ }
 {
     let row = y * w;
     let end = row + w;
-    if y == 0 {
-        begin(img, row, end, out);
-        return;
-    }
-    match d {
-        Diagonal::Falling => {
-            begin(img, row, row + 1, out);
-            carry(img, row + 1, end, w + 1, out);
-        }
-        Diagonal::Rising => {
-            carry(img, row, end - 1, w - 1, out);
-            begin(img, end - 1, end, out);
-        }
-    }
-}
-
-fn sat_diag(img: &[u8], w: usize, h: usize, d: Diagonal, out: &mut [u32])
-    requires { ⌜ (w ≤ 8192) × (h ≤ 8192) × (w * h ≤ length (now img)) × (w * h ≤ length (now out)) ⌝ }
-    ensures { λ _. ⌜ now (out .exit) ≡ tableOf (wayOf d) (pixel (now (img .entry)) w) w h (now (out .entry)) ⌝ }
-{
-    if w == 0 {
-        return;
-    }
-    for y in 0..h {
-        diagonal_row(img, w, y, d, out);
-    }
+    let first = end - going(y, less(w, 1));
+    begin(img, row, first, out);
+    carry(img, first, end, w + 1, out);
 }
 
 fn sat_diag_pos(img: &[u8], w: usize, h: usize, out: &mut [u32])
     requires { ⌜ (w ≤ 8192) × (h ≤ 8192) × (w * h ≤ length (now img)) × (w * h ≤ length (now out)) ⌝ }
     ensures { λ _. ⌜ now (out .exit) ≡ tableOf fall (pixel (now (img .entry)) w) w h (now (out .entry)) ⌝ }
 {
-    sat_diag(img, w, h, Diagonal::Falling, out);
+    for y in 0..h {
+        falling_row(img, w, y, out);
+    }
+}
+
+// Row y of the diagonals that rise to the right, from (x + 1, y - 1): one begins in the last column, and in the first row each.
+fn rising_row(img: &[u8], w: usize, y: usize, out: &mut [u32])
+    requires { ⌜ Above rise (now img) w y (now out) ⌝ }
+    ensures { λ _. ⌜ now (out .exit) ≡ tableOf rise (pixel (now (img .entry)) w) w (y + 1) (now (out .entry)) ⌝ }
+{
+    let row = y * w;
+    let back = less(w, 1);
+    let last = row + going(y, back);
+    carry(img, row, last, back, out);
+    begin(img, last, row + w, out);
 }
 
 fn sat_diag_neg(img: &[u8], w: usize, h: usize, out: &mut [u32])
     requires { ⌜ (w ≤ 8192) × (h ≤ 8192) × (w * h ≤ length (now img)) × (w * h ≤ length (now out)) ⌝ }
     ensures { λ _. ⌜ now (out .exit) ≡ tableOf rise (pixel (now (img .entry)) w) w h (now (out .entry)) ⌝ }
 {
-    sat_diag(img, w, h, Diagonal::Rising, out);
+    for y in 0..h {
+        rising_row(img, w, y, out);
+    }
 }
 
 // The least of five lengths: that of the image and of the four tables.

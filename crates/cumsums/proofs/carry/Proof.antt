@@ -1,6 +1,6 @@
 -- `carry`: a turn stores the pixel and the entry `back` before, which no turn of the run has changed. Assumes nothing.
 use mathlib.Core.Path.{_≡_, ap}
-use Prim.Native.Nat.{ℕ, _+_, _-_}
+use Prim.Native.Nat.{ℕ, _+_, _-_, _≤_}
 use native.Mathlib.Omega.{arith}
 use lib.ListN.{getD}
 use Rattle.grid.proofs.Span.{Spanning, spanning-none, spanning-more, spanning-all, spanning-before}
@@ -16,17 +16,20 @@ abbrev μ-loop : tie.MeasureT-loop
 abbrev turn : tie.After-shared-slice-known Inv-loop μ-loop → tie.In-loop Inv-loop μ-loop
 turn c = c .before .before
 
--- the entry that a turn goes on from is as it was
+-- the entry that a turn goes on from is there, and as it was
+there : (t : tie.In-loop Inv-loop μ-loop) → t .before .before .args .back ≤ t .before .loop .i
+there t = t .before .before .pre .least _ (t .before .loop .inv .least) (t .loop-test .taken)
+
 kept : (t : tie.In-loop Inv-loop μ-loop)
     → getD (t .before .loop .out) (t .before .loop .i - t .before .before .args .back) 0
     ≡ getD (t .before .before .args .out .now) (t .before .loop .i - t .before .before .args .back) 0
-kept t = spanning-before _ _ _ _ (t .before .loop .inv) _ 0 (omega arith)
+kept t = spanning-before _ _ _ _ (t .before .loop .inv) _ 0 (omega (arith, there t))
 
 loop-holds : tie.Need-loop-holds Inv-loop μ-loop
 loop-holds c = spanning-none _ _ _ _ (c .pre .run)
 
 sub-out : tie.Need-sub-out Inv-loop μ-loop
-sub-out c = omega arith
+sub-out c = there c
 
 mul-out : tie.Need-mul-out Inv-loop μ-loop
 mul-out c = omega arith
@@ -44,6 +47,7 @@ add-out : tie.Need-add-out Inv-loop μ-loop
 add-out c =
     let t = turn c in
     let k = t .before .loop .i - t .before .before .args .back in
+    let l = there t in
     let m = t .before .before .pre .small k (omega arith) (omega arith) in
     omega (arith, kept t, m, c .shared-slice-known .given (t .before .loop .i))
 
