@@ -15,7 +15,8 @@ use Rattle.grid.specs.Span.{span}
 use Rattle.grid.proofs.Span.{row-span}
 use Rattle.grid.specs.Ways.{Way, along, down, fall, rise, pixel}
 use Rattle.cumsums.specs.Tables.{tableAt, tableOf}
-use Rattle.cumsums.specs.Passes.{Above, Carries}
+use Rattle.cumsums.specs.Passes.{Above, Carries, wayOf}
+use Rattle.cumsums.specs.declared.Diagonal.{Diagonal}
 use Rattle.cumsums.proofs.Summed.{Begins, Goes, beforex, beforey, table-first, table-on, table-most}
 
 -- how many entries before a pixel's entry that of the pixel before it on the line stands
@@ -190,6 +191,14 @@ module _ (img : List ℕ) (w y : ℕ) (xs : List ℕ) {n : ℕ} (g : Going w y n
       (λ x l m. (rise-goes x m, omega (arith, rise-goes x m))) in
       row-whole rise img w y xs
       (row-begun rise img w y xs {lo = n} {hi = w} r (going-most g) (omega arith) refl refl q (λ x l m. rise-begins x l m))
+
+-- which diagonal it is
+pub above-as : {d e : Diagonal} → d ≡ e → {img : List ℕ} {w y : ℕ} {xs : List ℕ} → Above (wayOf d) img w y xs → Above (wayOf e) img w y xs
+above-as p a = rw p at a
+
+pub table-as : {d e : Diagonal} → d ≡ e → (f : ℕ → ℕ → ℕ) (w h : ℕ) (xs : List ℕ) {zs : List ℕ} → zs ≡ tableOf (wayOf e) f w h xs
+    → zs ≡ tableOf (wayOf d) f w h xs
+table-as p f w h xs z = rw p z
 
 -- ---- the sum that is carried along a row: with the pixel at x it is the entry
 

@@ -3,8 +3,10 @@ use mathlib.Core.Path.{_≡_}
 use mathlib.Core.List.{List}
 use Prim.Native.Nat.{ℕ, _+_, _*_, _≤_, _<_}
 use lib.ListN.{length, getD}
-use Rattle.grid.specs.Ways.{Way, pixel}
+use Rattle.grid.specs.Ways.{Way, fall, rise, pixel}
 use Rattle.cumsums.specs.Tables.{tableOf}
+use Rattle.cumsums.specs.declared.Diagonal.{Diagonal}
+use Rattle.cumsums.specs.declared.Diagonal.the-variants.{Falling, Rising}
 
 -- entries a to e - 1 can each take the one that is `back` before: that lies before the run, and is small
 pub record Carries (img out : List ℕ) (a e back : ℕ) : Type 0 where
@@ -22,6 +24,10 @@ pub record Above (d : Way) (img : List ℕ) (w y : ℕ) (out : List ℕ) : Type 
   pub image : y * w + w ≤ length img
   pub room : y * w + w ≤ length out
   pub done : out ≡ tableOf d (pixel img w) w y out
+
+abbrev pub wayOf : Diagonal → Way
+wayOf Falling = fall
+wayOf Rising = rise
 
 -- of the columns a to e - 1 the rows above y are g, and nothing else has changed
 pub record Strip (w : ℕ) (g : ℕ → ℕ → ℕ) (old out : List ℕ) (a e y : ℕ) : Type 0 where

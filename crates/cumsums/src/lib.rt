@@ -10,7 +10,7 @@ ghost use Rattle.grid.specs.Span.{span};
 ghost use Rattle.grid.specs.Ways.{pixel, along, down, fall, rise};
 ghost use Rattle.cumsums.specs.Tables.{tableAt, tableOf};
 ghost use Rattle.cumsums.specs.Lent.{tables, tablesOf, tablesFit};
-ghost use Rattle.cumsums.specs.Passes.{Above, Carries, Strip};
+ghost use Rattle.cumsums.specs.Passes.{Above, Carries, Strip, wayOf};
 
 // Entries a to e - 1, where lines begin.
 fn begin(img: &[u8], a: usize, e: usize, out: &mut [u32])
@@ -112,15 +112,6 @@ fn falling_row(img: &[u8], w: usize, y: usize, out: &mut [u32])
     carry(img, first, end, w + 1, out);
 }
 
-fn sat_diag_pos(img: &[u8], w: usize, h: usize, out: &mut [u32])
-    requires { ⌜ (w ≤ 8192) × (h ≤ 8192) × (w * h ≤ length (now img)) × (w * h ≤ length (now out)) ⌝ }
-    ensures { λ _. ⌜ now (out .exit) ≡ tableOf fall (pixel (now (img .entry)) w) w h (now (out .entry)) ⌝ }
-{
-    for y in 0..h {
-        falling_row(img, w, y, out);
-    }
-}
-
 // Row y of the diagonals that rise to the right, from (x + 1, y - 1): one begins in the last column, and in the first row each.
 fn rising_row(img: &[u8], w: usize, y: usize, out: &mut [u32])
     requires { ⌜ Above rise (now img) w y (now out) ⌝ }
@@ -133,12 +124,32 @@ fn rising_row(img: &[u8], w: usize, y: usize, out: &mut [u32])
     begin(img, last, row + w, out);
 }
 
-fn sat_diag_neg(img: &[u8], w: usize, h: usize, out: &mut [u32])
+// The two kinds.
+enum Diagonal {
+    Falling,
+    Rising,
+}
+
+fn diagonal_row(img: &[u8], w: usize, y: usize, d: Diagonal, out: &mut [u32])
+    requires { ⌜ Above (wayOf d) (now img) w y (now out) ⌝ }
+    ensures { λ _. ⌜ now (out .exit) ≡ tableOf (wayOf d) (pixel (now (img .entry)) w) w (y + 1) (now (out .entry)) ⌝ }
+{
+    match d {
+        Diagonal::Falling => {
+            falling_row(img, w, y, out);
+        }
+        Diagonal::Rising => {
+            rising_row(img, w, y, out);
+        }
+    }
+}
+
+fn sat_diag(img: &[u8], w: usize, h: usize, d: Diagonal, out: &mut [u32])
     requires { ⌜ (w ≤ 8192) × (h ≤ 8192) × (w * h ≤ length (now img)) × (w * h ≤ length (now out)) ⌝ }
-    ensures { λ _. ⌜ now (out .exit) ≡ tableOf rise (pixel (now (img .entry)) w) w h (now (out .entry)) ⌝ }
+    ensures { λ _. ⌜ now (out .exit) ≡ tableOf (wayOf d) (pixel (now (img .entry)) w) w h (now (out .entry)) ⌝ }
 {
     for y in 0..h {
-        rising_row(img, w, y, out);
+        diagonal_row(img, w, y, d, out);
     }
 }
 
@@ -173,7 +184,7 @@ pub fn build_cumsums(
     if fits(w, h, room) {
         sat_row(img, w, h, row);
         sat_col(img, w, h, col);
-        sat_diag_pos(img, w, h, falling);
-        sat_diag_neg(img, w, h, rising);
+        sat_diag(img, w, h, Diagonal::Falling, falling);
+        sat_diag(img, w, h, Diagonal::Rising, rising);
     }
 }

@@ -9,10 +9,10 @@ use Rattle.cumsums.proofs.build_cumsums.Tie as tie
 
 -- ---- the way back from what a pass is lent to the pass before it, and from the test to the start
 
-abbrev at-falling : tie.After-sat-diag-neg-arg → tie.After-sat-diag-pos
+abbrev at-falling : tie.After-sat-diag-arg2 → tie.After-sat-diag
 at-falling c = c .before .before .before
 
-abbrev at-col : tie.After-sat-diag-pos-arg → tie.After-sat-col
+abbrev at-col : tie.After-sat-diag-arg → tie.After-sat-col
 at-col c = c .before .before .before
 
 abbrev at-row : tie.After-sat-col-arg → tie.After-sat-row
@@ -49,13 +49,13 @@ sat-col-requires c κs =
     let m = fit (at-row c .before .before) in
     (m .wide, m .high, m .image, m .col-room)
 
-sat-diag-pos-requires : tie.Need-sat-diag-pos-requires
-sat-diag-pos-requires c κs =
+sat-diag-requires : tie.Need-sat-diag-requires
+sat-diag-requires c κs =
     let m = fit (at-row (at-col c .before) .before .before) in
     (m .wide, m .high, m .image, m .falling-room)
 
-sat-diag-neg-requires : tie.Need-sat-diag-neg-requires
-sat-diag-neg-requires c κs =
+sat-diag-requires-2 : tie.Need-sat-diag-requires-2
+sat-diag-requires-2 c κs =
     let m = fit (at-row (at-col (at-falling c .before) .before) .before .before) in
     (m .wide, m .high, m .image, m .rising-room)
 
@@ -82,7 +82,7 @@ returns c =
     let s = start f in
     when-done (s .args .w) (s .args .h) (length (s .args .img .now)) (lent s) (f .before .shortest .ensures) (f .fits2 .ensures)
     (pixel (s .args .img .now) (s .args .w)) (t .if1 .taken)
-    (row .sat-row .ensures) (col .sat-col .ensures) (falling .sat-diag-pos .ensures) (rising .sat-diag-neg .ensures)
+    (row .sat-row .ensures) (col .sat-col .ensures) (falling .sat-diag .ensures) (rising .sat-diag2 .ensures)
 
 returns-2 : tie.Need-returns-2
 returns-2 c =
@@ -94,5 +94,5 @@ returns-2 c =
 pub build-cumsums-spec : {M : Type 1} → statement M
 build-cumsums-spec =
     tie.close
-    (tie.spec shortest-requires fits-requires sat-row-requires sat-col-requires sat-diag-pos-requires sat-diag-neg-requires
+    (tie.spec shortest-requires fits-requires sat-row-requires sat-col-requires sat-diag-requires sat-diag-requires-2
     same-length same-length-2 same-length-3 same-length-4 returns returns-2)

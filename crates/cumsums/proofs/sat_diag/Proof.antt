@@ -1,18 +1,19 @@
--- `sat_diag_neg`: a turn fills row y. Assumes nothing.
+-- `sat_diag`: a turn fills row y. Assumes nothing.
 use Prim.Native.Nat.{_-_}
 use native.Mathlib.Omega.{arith}
 use Rattle.grid.proofs.Loops.{Rows, rows-none, rows-all}
-use Rattle.grid.specs.Ways.{pixel, rise}
+use Rattle.grid.specs.Ways.{pixel}
 use Rattle.cumsums.specs.Tables.{tableAt}
+use Rattle.cumsums.specs.Passes.{wayOf}
 use Rattle.cumsums.proofs.Running.{above-of, rows-next}
-use Rattle.cumsums.proofs.sat_diag_neg.Statement.{statement}
-use Rattle.cumsums.proofs.sat_diag_neg.Tie as tie
+use Rattle.cumsums.proofs.sat_diag.Statement.{statement}
+use Rattle.cumsums.proofs.sat_diag.Tie as tie
 
 abbrev Inv-loop : tie.InvT-loop
-Inv-loop img w h out₀ y₀ out y = Rows w h (tableAt rise (pixel img w) w) out₀ out y
+Inv-loop img w h d out₀ y₀ out y = Rows w h (tableAt (wayOf d) (pixel img w) w) out₀ out y
 
 abbrev μ-loop : tie.MeasureT-loop
-μ-loop img w h out₀ y₀ out y = h - y
+μ-loop img w h d out₀ y₀ out y = h - y
 
 abbrev turn : tie.After-slice-known2 Inv-loop μ-loop → tie.In-loop Inv-loop μ-loop
 turn c = c .before .before .before .before
@@ -23,11 +24,11 @@ start l = l .before .before .before
 loop-holds : tie.Need-loop-holds Inv-loop μ-loop
 loop-holds c = rows-none _ _ _ _
 
-rising-row-requires : tie.Need-rising-row-requires Inv-loop μ-loop
-rising-row-requires c κs =
+diagonal-row-requires : tie.Need-diagonal-row-requires Inv-loop μ-loop
+diagonal-row-requires c κs =
     let t = c .before in
     let p = start (t .before) .pre in
-    above-of rise _ _ _ _ (t .before .loop .inv) (t .loop-test .taken) (p .0) (p .1) (p .2) (p .3)
+    above-of _ _ _ _ _ (t .before .loop .inv) (t .loop-test .taken) (p .0) (p .1) (p .2) (p .3)
 
 add-y : tie.Need-add-y Inv-loop μ-loop
 add-y c = omega arith
@@ -38,8 +39,8 @@ loop-less c = omega arith
 loop-again : tie.Need-loop-again Inv-loop μ-loop
 loop-again c =
     let t = turn c in
-    rows-next rise (start (t .before) .args .img .now) _ _ _ (t .before .loop .inv) (t .loop-test .taken)
-    (c .before .before .rising-row .ensures)
+    rows-next (wayOf (start (t .before) .args .d)) (start (t .before) .args .img .now) _ _ _ (t .before .loop .inv)
+    (t .loop-test .taken) (c .before .before .diagonal-row .ensures)
 
 same-length : tie.Need-same-length Inv-loop μ-loop
 same-length c = c .before .loop .inv .long
@@ -47,5 +48,6 @@ same-length c = c .before .loop .inv .long
 returns : tie.Need-returns Inv-loop μ-loop
 returns c = rows-all _ _ _ _ (c .before .loop .inv) (c .loop-test .left)
 
-pub sat-diag-neg-spec : {M : Type 1} → statement M
-sat-diag-neg-spec = tie.close (tie.spec Inv-loop μ-loop loop-holds rising-row-requires add-y loop-less loop-again same-length returns)
+pub sat-diag-spec : {M : Type 1} → statement M
+sat-diag-spec =
+    tie.close (tie.spec Inv-loop μ-loop loop-holds diagonal-row-requires add-y loop-less loop-again same-length returns)
