@@ -18,7 +18,9 @@ tables row col falling rising = record { row = row; col = col; falling = falling
 
 -- of an image f, w wide and h high
 unfoldable pub tablesOf : (ℕ → ℕ → ℕ) → ℕ → ℕ → Lent → Lent
-tablesOf f w h b = tables (tableOf along f w h (b .row)) (tableOf down f w h (b .col)) (tableOf fall f w h (b .falling)) (tableOf rise f w h (b .rising))
+tablesOf f w h b =
+    tables (tableOf along f w h (b .row)) (tableOf down f w h (b .col)) (tableOf fall f w h (b .falling))
+    (tableOf rise f w h (b .rising))
 
 -- the length of the shortest, with the image's
 abbrev pub roomOf : ℕ → Lent → ℕ

@@ -14,7 +14,7 @@ use mir.Val.{Fits}
 use borrow.Author.Tests.{lt-ltb, le-ltb, le-leb, lt-leb}
 use Rattle.grid.proofs.Plane.{row-in}
 use Rattle.grid.specs.Ways.{Way, along, down, fall, rise, ray, Holds, Entry, Reach, Inside, Deep, upTo}
-use Rattle.grid.proofs.Ways.{ray-most, ray-ext, ray-by, ray-deep, deep-inside, none-past, holds-at, endx, endy, lowx, lowy, prex, prey}
+use Rattle.grid.proofs.Ways.{ray-most, ray-ext, ray-by, ray-deep, none-past, holds-at, endx, endy, lowx, lowy, prex, prey}
 use Rattle.rays.specs.Response.{spread, square, responseAt}
 use Rattle.rays.specs.Shown.{shown, entryAt, Between, Held}
 use Rattle.rays.proofs.Inner.{response-in}

@@ -2,7 +2,6 @@
 use borrow.Author.Needs.{needs}
 use borrow.Author.Tests.{le-leb, lt-leb, le-ltb, lt-ltb}
 use Prim.Native.Nat.{_+_}
-use native.Mathlib.Omega.{arith}
 use Rattle.rays.proofs.rays.inside.Statement.{statement}
 use Rattle.rays.proofs.rays.inside.Tie as tie
 
