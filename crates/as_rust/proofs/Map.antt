@@ -21,8 +21,8 @@ use Rattle.params.specs.declared.settings.RadonDetectorParams.{RadonDetectorPar
 use Rattle.params.specs.Settings.{factorOf, rayOf}
 use Rattle.upsample.specs.Upsample.{upAt, workAt}
 use Rattle.upsample.proofs.RoundedQuarter.{work-most}
-use Rattle.rays.specs.Tables.{tableOf}
-use Rattle.rays.proofs.Summed.{table-filled}
+use Rattle.cumsums.specs.Tables.{tableOf}
+use Rattle.cumsums.proofs.Summed.{table-filled}
 use Rattle.rays.specs.Response.{responseAt}
 use Rattle.rays.proofs.Inner.{response-ext}
 use Rattle.means.specs.Means.{valueAt}

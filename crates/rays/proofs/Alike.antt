@@ -5,7 +5,7 @@ use Rattle.grid.proofs.Plane.{plane-ext}
 use Rattle.grid.specs.Ways.{along, down, fall, rise}
 use Rattle.rays.specs.Lent.{Lent, tabled, raysOf}
 use Rattle.rays.proofs.Inner.{response-ext}
-use Rattle.rays.proofs.Summed.{table-ext}
+use Rattle.cumsums.proofs.Summed.{table-ext}
 
 pub rays-ext : (f g : ℕ → ℕ → ℕ) (w h r : ℕ) (b : Lent) → ((x y : ℕ) → x < w → y < h → f x y ≡ g x y) → raysOf f w h r b ≡ raysOf g w h r b
 unfolding raysOf

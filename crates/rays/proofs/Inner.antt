@@ -1,6 +1,6 @@
 -- Facts about the response: which pixels are inside, all zero in a narrow or low image, the same for a raised image,
 -- and from the pixels inside alone. Assumes nothing.
-use mathlib.Core.Path.{_≡_, refl, ap}
+use mathlib.Core.Path.{_≡_, refl, sym, ap, _∙_}
 use mathlib.Core.Bool.{Bool, true, false, cond, _&&_}
 use Prim.Native.Nat.{ℕ, _+_, _-_, _*_, _≤_, _<_, min, max}
 use native.Mathlib.Omega.{arith}
@@ -26,6 +26,15 @@ module _ (w h r x y : ℕ) where
 
   pub within-of : Inside w h r x y → within w h r x y ≡ true
   within-of m = rw (le-leb r x (m .left), lt-ltb (x + r) w (m .right), le-leb r y (m .above), lt-ltb (y + r) h (m .below))
+
+-- a test that was made
+module _ (w h r x y : ℕ) {t : Bool} (e : t ≡ within w h r x y) where
+  pub found-in : t ≡ true → Inside w h r x y
+  found-in q = inside-of w h r x y (rw (sym e ∙ q) tt)
+
+  pub found-out : (f : ℕ → ℕ → ℕ) → t ≡ false → f0 ≡ responseAt f w h r x y
+  unfolding responseAt
+  found-out f q = rw (sym e ∙ q)
 
 module _ (f : ℕ → ℕ → ℕ) (w h r x y : ℕ) where
   -- 0 where the rays are not inside

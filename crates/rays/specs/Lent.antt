@@ -9,7 +9,7 @@ use Rattle.grid.specs.Fill.{filled}
 use Rattle.grid.specs.Plane.{plane}
 use Rattle.grid.specs.Ways.{along, down, fall, rise}
 use Rattle.sizes.specs.Fits.{fitsIn}
-use Rattle.rays.specs.Tables.{tableOf}
+use Rattle.cumsums.specs.Tables.{tableOf}
 use Rattle.rays.specs.Response.{responseAt}
 
 -- the four tables and the response

@@ -5,7 +5,7 @@ use Prim.Native.Nat.{ℕ, zero, suc, _+_, _-_, _*_, _≤_, _<_}
 use lib.Dec.{ltb, leb}
 use lib.ListN.{length, getD}
 use lib.Ieee.{Float}
-use Rattle.grid.specs.Ways.{along, down, fall, rise, Holds}
+use Rattle.grid.specs.Ways.{along, down, fall, rise, Holds, Deep}
 use Rattle.rays.specs.Response.{responseAt}
 use Rattle.rays.specs.declared.rays.Row.{Row}
 
@@ -43,8 +43,19 @@ pub record Between (t : List ℕ) (w x0 y0 x1 y1 : ℕ) : Type 0 where
 abbrev pub readAt : List ℕ → Row → ℕ → Float
 readAt row at x = responseAt (shown row (at .w)) (at .w) (at .h) (at .r) x (at .y)
 
--- a row that the radius allows, and its tables
+-- a row of an image that the radius allows
+pub record Short (at : Row) : Type 0 where
+  pub short : at .r ≤ 7
+  pub wide : at .w ≤ 8192
+  pub high : at .h ≤ 8192
+  pub low : at .y < at .h
+
+-- and its tables
 pub record Readable (at : Row) (row col falling rising : List ℕ) : Type 0 where
   pub short : at .r ≤ 7
   pub low : at .y < at .h
   pub tables : Held (at .w) (at .h) row col falling rising
+
+-- the columns a to e - 1 are deep in the image
+abbrev pub AllDeep : Row → ℕ → ℕ → Type 0
+AllDeep at a e = (x : ℕ) → a ≤ x → x < e → Deep (at .w) (at .h) (at .r) x (at .y)

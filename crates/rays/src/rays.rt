@@ -5,9 +5,10 @@ ghost use Prim.Native.Nat.{_+_, _-_, _*_, _<_, _≤_, min, max};
 ghost use lib.ListN.{length, getD};
 ghost use Rattle.grid.specs.Fill.{filled};
 ghost use Rattle.grid.specs.Plane.{plane};
+ghost use Rattle.grid.specs.Span.{span};
 ghost use Rattle.grid.specs.Ways.{Inside, Deep};
-ghost use Rattle.rays.specs.Response.{spread, square, responseAt};
-ghost use Rattle.rays.specs.Shown.{shown, Held, entryAt, Between, readAt, Readable};
+ghost use Rattle.rays.specs.Response.{spread, square, within, responseAt};
+ghost use Rattle.rays.specs.Shown.{shown, Held, entryAt, Between, readAt, Short, Readable, AllDeep};
 
 // Row y of an image, with the sides of the image and the radius of its rays.
 pub struct Row {
@@ -79,13 +80,32 @@ fn radon_response_at(row: &[u32], col: &[u32], fall: &[u32], rise: &[u32], at: R
     let y = at.y;
     let x0 = x - r;
     let y0 = y - r;
-    let x1 = x + r + 1;
-    let y1 = y + r + 1;
-    let s_h = between(row, w, x0, y + 1, x1, y + 1);
-    let s_v = between(col, w, x + 1, y0, x + 1, y1);
+    let here_x = x + 1;
+    let here_y = y + 1;
+    let x1 = here_x + r;
+    let y1 = here_y + r;
+    let s_h = between(row, w, x0, here_y, x1, here_y);
+    let s_v = between(col, w, here_x, y0, here_x, y1);
     let s_d1 = between(fall, w, x0, y0, x1, y1);
     let s_d2 = between(rise, w, x1 + 1, y0, x0 + 1, y1);
     squared_spread(s_h, s_v, s_d1, s_d2)
+}
+
+// Whether column x of a row is at least r from every edge.
+fn inside(at: Row, x: usize) -> bool
+    requires { ⌜ (x < at .w) × Short at ⌝ }
+    ensures { λ t. ⌜ t ≡ within (at .w) (at .h) (at .r) x (at .y) ⌝ }
+{
+    if x < at.r {
+        return false;
+    }
+    if at.w <= x + at.r {
+        return false;
+    }
+    if at.y < at.r {
+        return false;
+    }
+    at.y + at.r < at.h
 }
 
 // The response at any pixel: 0 nearer than r to an edge.
@@ -93,31 +113,28 @@ fn response_or_zero(row: &[u32], col: &[u32], fall: &[u32], rise: &[u32], at: Ro
     requires { ⌜ (x < at .w) × Readable at (now row) (now col) (now fall) (now rise) ⌝ }
     ensures { λ v. ⌜ v ≡ readAt (now (row .entry)) at x ⌝ }
 {
-    let r = at.r;
-    let y = at.y;
-    if x < r {
-        return 0.0;
+    if inside(at, x) {
+        return radon_response_at(row, col, fall, rise, at, x);
     }
-    if at.w <= x + r {
-        return 0.0;
-    }
-    if y < r {
-        return 0.0;
-    }
-    if at.h <= y + r {
-        return 0.0;
-    }
-    radon_response_at(row, col, fall, rise, at, x)
+    0.0
 }
 
-// A row from column a on, as far as `out` goes, by the tests of each pixel.
-fn edges(row: &[u32], col: &[u32], fall: &[u32], rise: &[u32], at: Row, a: usize, out: &mut [f32])
-    requires { ⌜ (a + length (now out) ≤ at .w) × Readable at (now row) (now col) (now fall) (now rise) ⌝ }
-    ensures { λ _. ⌜ now (out .exit) ≡ filled (length (now (out .entry))) (λ i. readAt (now (row .entry)) at (a + i)) (now (out .entry)) ⌝ }
+// The columns a to e - 1 of a row, by the tests of each pixel.
+fn edges(
+    row: &[u32],
+    col: &[u32],
+    fall: &[u32],
+    rise: &[u32],
+    at: Row,
+    a: usize,
+    e: usize,
+    out: &mut [f32],
+)
+    requires { ⌜ (a ≤ e) × (e ≤ at .w) × (e ≤ length (now out)) × Readable at (now row) (now col) (now fall) (now rise) ⌝ }
+    ensures { λ _. ⌜ now (out .exit) ≡ span a (e - a) (readAt (now (row .entry)) at) (now (out .entry)) ⌝ }
 {
-    let n = out.len();
-    for i in 0..n {
-        out[i] = response_or_zero(row, col, fall, rise, at, a + i);
+    for x in a..e {
+        out[x] = response_or_zero(row, col, fall, rise, at, x);
     }
 }
 
@@ -136,48 +153,55 @@ fn deep_response(row: &[u32], col: &[u32], fall: &[u32], rise: &[u32], at: Row, 
     let w = at.w;
     let r = at.r;
     let y = at.y;
+    let past = r + 1;
     let here = y * w + x;
     let below = (y + r) * w + x;
-    let above = (y - r - 1) * w + x;
-    let s_h = difference(row, here + r, here - r - 1);
+    let above = (y - past) * w + x;
+    let s_h = difference(row, here + r, here - past);
     let s_v = difference(col, below, above);
-    let s_d1 = difference(fall, below + r, above - r - 1);
-    let s_d2 = difference(rise, below - r, above + r + 1);
+    let s_d1 = difference(fall, below + r, above - past);
+    let s_d2 = difference(rise, below - r, above + past);
     squared_spread(s_h, s_v, s_d1, s_d2)
 }
 
-// The same without a test, where the columns are more than r from the left edge and from the right one.
-fn inner(row: &[u32], col: &[u32], fall: &[u32], rise: &[u32], at: Row, a: usize, out: &mut [f32])
+// The same without a test, where each of the columns is deep in the image.
+fn inner(
+    row: &[u32],
+    col: &[u32],
+    fall: &[u32],
+    rise: &[u32],
+    at: Row,
+    a: usize,
+    e: usize,
+    out: &mut [f32],
+)
     requires { ⌜
-        (at .r < at .y) × (at .y + at .r < at .h) × (at .r < a) × (a + length (now out) + at .r < at .w)
-        × Readable at (now row) (now col) (now fall) (now rise)
+        (a ≤ e) × (e ≤ length (now out)) × AllDeep at a e × Readable at (now row) (now col) (now fall) (now rise)
         ⌝ }
-    ensures { λ _. ⌜ now (out .exit) ≡ filled (length (now (out .entry))) (λ i. readAt (now (row .entry)) at (a + i)) (now (out .entry)) ⌝ }
+    ensures { λ _. ⌜ now (out .exit) ≡ span a (e - a) (readAt (now (row .entry)) at) (now (out .entry)) ⌝ }
 {
-    let n = out.len();
-    for i in 0..n {
-        out[i] = deep_response(row, col, fall, rise, at, a + i);
+    for x in a..e {
+        out[x] = deep_response(row, col, fall, rise, at, x);
     }
 }
 
-// A row more than r from the top and at least r from the bottom.
-fn deep_row(row: &[u32], col: &[u32], fall: &[u32], rise: &[u32], at: Row, out: &mut [f32])
-    requires { ⌜
-        (at .r < at .y) × (at .y + at .r < at .h) × (2 * at .r + 2 ≤ at .w) × (length (now out) ≡ at .w)
-        × Readable at (now row) (now col) (now fall) (now rise)
-        ⌝ }
-    ensures { λ _. ⌜ now (out .exit) ≡ filled (at .w) (readAt (now (row .entry)) at) (now (out .entry)) ⌝ }
+// Where a row's run without a test begins, and as many columns from the end stops: at the end where there is none,
+// which is near the top or the bottom and in a narrow image.
+fn inner_from(at: Row) -> usize
+    requires { ⌜ Short at ⌝ }
+    ensures { λ a. ⌜ (a ≤ at .w) × AllDeep at a (at .w - a) ⌝ }
 {
-    let r = at.r;
-    let end = at.w;
-    let first = r + 1;
-    let last = end - r - 1;
-    edges(row, col, fall, rise, at, 0, &mut out[0..first]);
-    inner(row, col, fall, rise, at, first, &mut out[first..last]);
-    edges(row, col, fall, rise, at, last, &mut out[last..end]);
+    if at.r < at.y {
+        if at.y + at.r < at.h {
+            if 2 * at.r + 2 <= at.w {
+                return at.r + 1;
+            }
+        }
+    }
+    at.w
 }
 
-// Row y: by the tests of each pixel where it is near the top or the bottom, or the image narrow.
+// Row y.
 fn compute_response_row(
     row: &[u32],
     col: &[u32],
@@ -189,17 +213,11 @@ fn compute_response_row(
     requires { ⌜ (length (now out) ≡ at .w) × Readable at (now row) (now col) (now fall) (now rise) ⌝ }
     ensures { λ _. ⌜ now (out .exit) ≡ filled (at .w) (readAt (now (row .entry)) at) (now (out .entry)) ⌝ }
 {
-    let r = at.r;
-    let y = at.y;
-    if r < y {
-        if y + r < at.h {
-            if 2 * r + 2 <= at.w {
-                deep_row(row, col, fall, rise, at, out);
-                return;
-            }
-        }
-    }
-    edges(row, col, fall, rise, at, 0, out);
+    let first = inner_from(at);
+    let last = sizes::larger(first, at.w - first);
+    edges(row, col, fall, rise, at, 0, first, out);
+    inner(row, col, fall, rise, at, first, last, out);
+    edges(row, col, fall, rise, at, last, at.w, out);
 }
 
 // The response of the image that the tables are of.

@@ -16,11 +16,11 @@ use Rattle.grid.proofs.Ways.{run-ext}
 use Rattle.upsample.specs.Upsample.{workAt, upFits}
 use Rattle.upsample.specs.Fitting.{FittingImage}
 use Rattle.upsample.proofs.Fits.{up-plain}
-use Rattle.rays.specs.Tables.{tableOf}
+use Rattle.cumsums.specs.Tables.{tableOf}
 use Rattle.rays.specs.Response.{responseAt}
 use Rattle.rays.specs.Lent.{Lent, tabled, raysOf, raysFit}
 use Rattle.rays.proofs.Fit.{Fitted, rays-plain}
-use Rattle.rays.proofs.Summed.{table-filled}
+use Rattle.cumsums.proofs.Summed.{table-filled}
 use Rattle.rays.proofs.Inner.{response-ext}
 use Rattle.means.specs.Means.{valueAt}
 use Rattle.blur.specs.Blur.{blurAt, scratched, blurFits}

@@ -15,7 +15,7 @@ use Rattle.params.specs.Settings.{factorOf, rayOf}
 use Rattle.params.specs.Answers.{numberOf}
 use Rattle.params.specs.Refusals.{mapRefusalOf}
 use Rattle.upsample.specs.Upsample.{workAt}
-use Rattle.rays.specs.Tables.{tableOf}
+use Rattle.cumsums.specs.Tables.{tableOf}
 use Rattle.rays.specs.Response.{responseAt}
 use Rattle.blur.specs.Blur.{blurAt, scratched}
 use Rattle.response.specs.declared.Mapped.{Mapped}

@@ -1,14 +1,6 @@
 -- `radon_response_at`: the four differences are the four rays, also where an entry is past the edge. Assumes nothing.
-use mathlib.Core.Path.{_∙_}
-use mathlib.Core.List.{List}
-use Prim.Native.Nat.{ℕ, _*_, _≤_}
-use native.Mathlib.Omega.{arith}
-use lib.ListN.{length}
-use borrow.Author.Needs.{needs}
-use Rattle.grid.specs.Ways.{Way, along, down, fall, rise, ray, Holds}
 use Rattle.rays.specs.Shown.{shown}
-use Rattle.rays.proofs.Inner.{response-in}
-use Rattle.rays.proofs.Showing.{EdgeRay, edge-ray, ray-read, ray-small}
+use Rattle.rays.proofs.Reading.{Cast, cast-small, cast-response, EdgeRays, EdgePlaces, edge-read, edge-rays, edge-places}
 use Rattle.rays.proofs.rays.radon_response_at.Statement.{statement}
 use Rattle.rays.proofs.rays.radon_response_at.Tie as tie
 
@@ -21,102 +13,78 @@ start2 c = start (c .before .before)
 abbrev start4 : tie.After-between4 → tie.Start
 start4 c = start2 (c .before .before)
 
--- ---- each difference is a ray
+-- the eight entries, and the numbers on the way to them
+rays : (s : tie.Start)
+    → EdgeRays (s .args .at .w) (s .args .at .r) (s .args .x) (s .args .at .y)
+    (s .args .row .now) (s .args .col .now) (s .args .fall .now) (s .args .rise .now)
+rays s = edge-rays (s .pre .1 .tables) (s .pre .0)
 
-abbrev RayOf : Way → List ℕ → tie.Start → Type 0
-RayOf d t s =
-    EdgeRay d (shown (s .args .row .now) (s .args .at .w)) t (s .args .at .w) (s .args .at .r) (s .args .x) (s .args .at .y)
+places : (s : tie.Start) → EdgePlaces (s .args .at .r) (s .args .x) (s .args .at .y)
+places s = edge-places (s .pre .1 .tables .wide) (s .pre .1 .tables .high) (s .pre .0)
 
-ray-of : (s : tie.Start) (d : Way) {t : List ℕ}
-    → Holds d (shown (s .args .row .now) (s .args .at .w)) (s .args .at .w) (s .args .at .h) t
-    → s .args .at .w * s .args .at .h ≤ length t → RayOf d t s
-ray-of s d h l = edge-ray d h (s .pre .0) (s .pre .1 .tables .wide) (s .pre .1 .tables .high) l
-
-on-row : (s : tie.Start) → RayOf along (s .args .row .now) s
-on-row s = ray-of s along (s .pre .1 .tables .rows) (s .pre .1 .tables .row-long)
-
-on-col : (s : tie.Start) → RayOf down (s .args .col .now) s
-on-col s = ray-of s down (s .pre .1 .tables .columns) (s .pre .1 .tables .col-long)
-
-on-falling : (s : tie.Start) → RayOf fall (s .args .fall .now) s
-on-falling s = ray-of s fall (s .pre .1 .tables .falls) (s .pre .1 .tables .falling-long)
-
-on-rising : (s : tie.Start) → RayOf rise (s .args .rise .now) s
-on-rising s = ray-of s rise (s .pre .1 .tables .rises) (s .pre .1 .tables .rising-long)
+-- what was read
+cast : (c : tie.After-between4)
+    → let s = start4 c in
+    Cast (shown (s .args .row .now) (s .args .at .w)) (s .args .at .r) (s .args .x) (s .args .at .y)
+    (c .before .before .before .between .result) (c .before .before .between2 .result) (c .before .between3 .result)
+    (c .between4 .result)
+cast c =
+    let e = rays (start4 c) in
+    record {
+      on-row = edge-read (e .on-row) (c .before .before .before .between .ensures);
+      on-col = edge-read (e .on-col) (c .before .before .between2 .ensures);
+      on-falling = edge-read (e .on-falling) (c .before .between3 .ensures);
+      on-rising = edge-read (e .on-rising) (c .between4 .ensures);
+    }
 
 sub-x0 : tie.Need-sub-x0
-sub-x0 c = search needs
+sub-x0 c = places (start c) .least .0
 
 sub-y0 : tie.Need-sub-y0
-sub-y0 c = search needs
+sub-y0 c = places (start c) .least .1
+
+add-here-x : tie.Need-add-here-x
+add-here-x c = places (start c) .here .0
+
+add-here-y : tie.Need-add-here-y
+add-here-y c = places (start c) .here .1
 
 add-x1 : tie.Need-add-x1
-add-x1 c = search needs
-
-add-x1-2 : tie.Need-add-x1-2
-add-x1-2 c = search needs
+add-x1 c = places (start c) .end .0
 
 add-y1 : tie.Need-add-y1
-add-y1 c = search needs
-
-add-y1-2 : tie.Need-add-y1-2
-add-y1-2 c = search needs
-
-add-between : tie.Need-add-between
-add-between c = search needs
-
-add-between-2 : tie.Need-add-between-2
-add-between-2 c = search needs
+add-y1 c = places (start c) .end .1
 
 between-requires : tie.Need-between-requires
-between-requires c κs = on-row (start c) .reads
-
-add-between-3 : tie.Need-add-between-3
-add-between-3 c = search needs
-
-add-between-4 : tie.Need-add-between-4
-add-between-4 c = search needs
+between-requires c κs = rays (start c) .on-row .reads
 
 between-requires-2 : tie.Need-between-requires-2
-between-requires-2 c κs = on-col (start (c .before)) .reads
+between-requires-2 c κs = rays (start (c .before)) .on-col .reads
 
 between-requires-3 : tie.Need-between-requires-3
-between-requires-3 c κs = on-falling (start2 c) .reads
+between-requires-3 c κs = rays (start2 c) .on-falling .reads
 
-add-between-5 : tie.Need-add-between-5
-add-between-5 c = search needs
+add-between : tie.Need-add-between
+add-between c = places (start2 (c .before)) .rises .0
 
-add-between-6 : tie.Need-add-between-6
-add-between-6 c = search needs
+add-between-2 : tie.Need-add-between-2
+add-between-2 c = places (start2 (c .before)) .rises .1
 
 between-requires-4 : tie.Need-between-requires-4
-between-requires-4 c κs = on-rising (start2 (c .before)) .reads
+between-requires-4 c κs = rays (start2 (c .before)) .on-rising .reads
 
 squared-spread-requires : tie.Need-squared-spread-requires
 squared-spread-requires c κs =
-    let s = start4 c in
-    let most : (d : Way) → ray d (shown (s .args .row .now) (s .args .at .w)) (s .args .at .r) (s .args .x) (s .args .at .y) ≤ 61425 =
-    λ d. ray-small (s .pre .1 .tables) d (s .pre .1 .short) (s .pre .0) in (
-      omega (arith, most along, on-row s .is),
-      omega (arith, most down, on-col s .is),
-      omega (arith, most fall, on-falling s .is),
-      omega (arith, most rise, on-rising s .is),
-    )
+    let p = start4 c .pre in
+    cast-small (p .1 .tables) (p .0) (cast c) (p .1 .short)
 
 returns : tie.Need-returns
 returns c =
-    let b = c .before in
-    let s = start4 b in
-    c .squared-spread .ensures
-    ∙ response-in _ _ _ _ _ _ (s .pre .0)
-    (ray-read (on-row s) (b .before .before .before .between .ensures))
-    (ray-read (on-col s) (b .before .before .between2 .ensures))
-    (ray-read (on-falling s) (b .before .between3 .ensures))
-    (ray-read (on-rising s) (b .between4 .ensures))
+    let p = start4 (c .before) .pre in
+    cast-response (p .1 .tables) (p .0) (cast (c .before)) (c .squared-spread .ensures)
 
 pub radon-response-at-spec : {M : Type 1} → statement M
 radon-response-at-spec =
     tie.close
-    (tie.spec sub-x0 sub-y0 add-x1 add-x1-2 add-y1 add-y1-2 add-between add-between-2 between-requires add-between-3
-    add-between-4 between-requires-2 between-requires-3 add-between-5 add-between-6 between-requires-4
-    squared-spread-requires returns)
+    (tie.spec sub-x0 sub-y0 add-here-x add-here-y add-x1 add-y1 between-requires between-requires-2 between-requires-3
+    add-between add-between-2 between-requires-4 squared-spread-requires returns)

@@ -1,34 +1,23 @@
--- `response_or_zero`: each test that fails shows that the rays are not inside. Assumes nothing.
-use native.Mathlib.Omega.{arith}
+-- `response_or_zero`: 0 where the test shows that the rays are not inside. Assumes nothing.
 use borrow.Author.Needs.{needs}
-use Rattle.rays.proofs.Inner.{response-out}
+use Rattle.rays.proofs.Inner.{found-in, found-out}
 use Rattle.rays.proofs.rays.response_or_zero.Statement.{statement}
 use Rattle.rays.proofs.rays.response_or_zero.Tie as tie
 
-returns : tie.Need-returns
-returns c = response-out _ _ _ _ _ _ (λ m. omega arith)
+abbrev start : tie.After-inside → tie.Start
+start c = c .before .before .before .before .before
 
-add-if2 : tie.Need-add-if2
-add-if2 c = search needs
-
-returns-2 : tie.Need-returns-2
-returns-2 c = response-out _ _ _ _ _ _ (λ m. omega arith)
-
-returns-3 : tie.Need-returns-3
-returns-3 c = response-out _ _ _ _ _ _ (λ m. omega arith)
-
-add-if4 : tie.Need-add-if4
-add-if4 c = search needs
-
-returns-4 : tie.Need-returns-4
-returns-4 c = response-out _ _ _ _ _ _ (λ m. omega arith)
+inside-requires : tie.Need-inside-requires
+inside-requires c κs = search needs
 
 radon-response-at-requires : tie.Need-radon-response-at-requires
-radon-response-at-requires c κs = search needs
+radon-response-at-requires c κs = (found-in _ _ _ _ _ (c .before .inside .ensures) (c .if1 .taken), start (c .before) .pre .1)
 
-returns-5 : tie.Need-returns-5
-returns-5 c = search needs
+returns : tie.Need-returns
+returns c = c .radon-response-at .ensures
+
+returns-2 : tie.Need-returns-2
+returns-2 c = found-out _ _ _ _ _ (c .before .inside .ensures) _ (c .if1 .left)
 
 pub response-or-zero-spec : {M : Type 1} → statement M
-response-or-zero-spec =
-    tie.close (tie.spec returns add-if2 returns-2 returns-3 add-if4 returns-4 radon-response-at-requires returns-5)
+response-or-zero-spec = tie.close (tie.spec inside-requires radon-response-at-requires returns returns-2)

@@ -1,0 +1,51 @@
+-- `sat_row`: a turn fills row y. Assumes nothing.
+use Prim.Native.Nat.{_-_}
+use native.Mathlib.Omega.{arith}
+use Rattle.grid.proofs.Loops.{Rows, rows-none, rows-all}
+use Rattle.grid.specs.Ways.{pixel, along}
+use Rattle.cumsums.specs.Tables.{tableAt}
+use Rattle.cumsums.proofs.Running.{above-of, rows-next}
+use Rattle.cumsums.proofs.sat_row.Statement.{statement}
+use Rattle.cumsums.proofs.sat_row.Tie as tie
+
+abbrev Inv-loop : tie.InvT-loop
+Inv-loop img w h out₀ y₀ out y = Rows w h (tableAt along (pixel img w) w) out₀ out y
+
+abbrev μ-loop : tie.MeasureT-loop
+μ-loop img w h out₀ y₀ out y = h - y
+
+abbrev turn : tie.After-slice-known2 Inv-loop μ-loop → tie.In-loop Inv-loop μ-loop
+turn c = c .before .before .before .before
+
+abbrev start : tie.At-loop Inv-loop μ-loop → tie.Start Inv-loop μ-loop
+start l = l .before .before .before
+
+loop-holds : tie.Need-loop-holds Inv-loop μ-loop
+loop-holds c = rows-none _ _ _ _
+
+along-row-requires : tie.Need-along-row-requires Inv-loop μ-loop
+along-row-requires c κs =
+    let t = c .before in
+    let p = start (t .before) .pre in
+    above-of along _ _ _ _ (t .before .loop .inv) (t .loop-test .taken) (p .0) (p .1) (p .2) (p .3)
+
+add-y : tie.Need-add-y Inv-loop μ-loop
+add-y c = omega arith
+
+loop-less : tie.Need-loop-less Inv-loop μ-loop
+loop-less c = omega arith
+
+loop-again : tie.Need-loop-again Inv-loop μ-loop
+loop-again c =
+    let t = turn c in
+    rows-next along (start (t .before) .args .img .now) _ _ _ (t .before .loop .inv) (t .loop-test .taken)
+    (c .before .before .along-row .ensures)
+
+same-length : tie.Need-same-length Inv-loop μ-loop
+same-length c = c .before .loop .inv .long
+
+returns : tie.Need-returns Inv-loop μ-loop
+returns c = rows-all _ _ _ _ (c .before .loop .inv) (c .loop-test .left)
+
+pub sat-row-spec : {M : Type 1} → statement M
+sat-row-spec = tie.close (tie.spec Inv-loop μ-loop loop-holds along-row-requires add-y loop-less loop-again same-length returns)
