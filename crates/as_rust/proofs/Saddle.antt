@@ -87,12 +87,25 @@ normStep mean s o =
 abbrev floats : ℕ → Place → Two
 floats k p = (offset k (p .x), offset k (p .y))
 
--- `sum()` from -0.0 is `sum()` from 0.0: computed for each radius
-from-minus : ℕ → Bool
-from-minus k = alike (foldl (λ s p. momentStep s (floats k p)) lit-minus-0 (disk k)) (foldl (λ s p. momentStep s (floats k p)) lit-0 (disk k))
+-- `sum()` from -0.0 is `sum()` from 0.0, since the first step already is the same: computed for each radius
+module _ (k : ℕ) where
+  abbrev summed : Float → List Place → Float
+  summed = foldl (λ s p. momentStep s (floats k p))
+
+  begins : List Place → Bool
+  begins [] = false
+  begins (p ∷ ps) = alike (momentStep lit-minus-0 (floats k p)) (momentStep lit-0 (floats k p))
+
+  begun : (ps : List Place) → T (begins ps) → summed lit-minus-0 ps ≡ summed lit-0 ps
+  unfolding begins
+  begun [] t = absurd t
+  begun (p ∷ ps) t = ap (λ (s : Float). summed s ps) (alike-same _ _ t)
+
+  from-minus : Bool
+  from-minus = begins (disk k)
 
 either-start : T (every from-minus 8)
-unfolding every from-minus alike fits ofBits toBits add mul ofInt offset disk each keep range from line rect inDisk
+unfolding every from-minus begins alike fits ofBits toBits add mul ofInt offset disk each keep range from line rect inDisk
 either-start = tt
 
 module _ (m : Machine) (k : ℕ) (l : k ≤ 7) where
@@ -114,10 +127,9 @@ module _ (m : Machine) (k : ℕ) (l : k ≤ 7) where
       ap (foldl momentStep start) disk-is ∙ made momentStep (floats k) start (disk k) ∙ begin e ∙ sym
       (part noMoments (λ s. s .r2) _ _ (disk k) (λ s p. refl))
     where
-      begin : (start ≡ lit-0) ⊎ (start ≡ lit-minus-0) → foldl (λ s p. momentStep s (floats k p)) start (disk k)
-          ≡ foldl (λ s p. momentStep s (floats k p)) lit-0 (disk k)
+      begin : (start ≡ lit-0) ⊎ (start ≡ lit-minus-0) → summed k start (disk k) ≡ summed k lit-0 (disk k)
       begin (inl q) = rw q
-      begin (inr q) = rw q (alike-same _ _ (every-at from-minus 8 either-start k (omega arith)))
+      begin (inr q) = rw q (begun k (disk k) (every-at from-minus 8 either-start k (omega arith)))
 
   norms-are : (mean : Float) → foldl {B = Three} (normStep mean) (lit-0, lit-0, lit-0) (disk-of m k)
       ≡ (normsOf mean k .u, normsOf mean k .v, normsOf mean k .xy)
