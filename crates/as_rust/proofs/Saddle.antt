@@ -102,10 +102,17 @@ not-not false = refl
 
 -- the iterator gives document 01's disk in its order, and nothing on the way leaves isize
 module _ (m : Machine) (k : ℕ) (l : k ≤ 7) where
-  near : ℤ → ℤ → Bool
-  near dy dx = not (ltℤ (pos (max (k * k) 2)) (i64 m (i64 m (dx *ℤ dx) +ℤ i64 m (dy *ℤ dy))))
+  -- the square of an offset is at most r2
+  near : ℤ → ℤ → ℤ → Bool
+  near r2 dy dx = not (ltℤ r2 (i64 m (i64 m (dx *ℤ dx) +ℤ i64 m (dy *ℤ dy))))
 
-  near-is : (i j : ℕ) → 0 ≤ i → i < side k → 0 ≤ j → j < side k → passes k near (place i j) ≡ inDisk k (place i j)
+  abbrev walked : ℤ → List ℤ → List (ℤ × ℤ)
+  walked r2 l = each (λ dy. theirs dy (keep (near r2 dy) l)) l
+
+  abbrev bound : ℤ
+  bound = pos (max (k * k) 2)
+
+  near-is : (i j : ℕ) → 0 ≤ i → i < side k → 0 ≤ j → j < side k → passes k (near bound) (place i j) ≡ inDisk k (place i j)
   unfolding near inDisk
   near-is i j o b p d =
       let u = apart i k * apart i k in
@@ -121,9 +128,10 @@ module _ (m : Machine) (k : ℕ) (l : k ≤ 7) where
   unfolding offsets disk rect line near
   offsets-are =
       let n = side k in
-      rw (sides-are m k l .0, sides-are m k l .1)
-      (rows-are k near (range 0 n) (range 0 n)
-      ∙ ap (ours k) (keep-rect-ext (passes k near) (inDisk k) 0 n 0 n near-is))
+      ap (λ (r2 : ℤ). walked r2 (inclusive (i64 m (negℤ (as-isize k))) (as-isize k))) (sides-are m k l .1)
+      ∙ ap (walked bound) (sides-are m k l .0)
+      ∙ rows-are k (near bound) (range 0 n) (range 0 n)
+      ∙ ap (ours k) (keep-rect-ext (passes k (near bound)) (inDisk k) 0 n 0 n near-is)
 
 -- ---- folds
 
