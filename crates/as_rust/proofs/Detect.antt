@@ -40,7 +40,7 @@ use Rattle.as_rust.specs.Response.{RadonResponseView}
 use Rattle.as_rust.specs.Detect.{relative-floor, new, border-of, process-pixel, detect-peaks-from-radon}
 use Rattle.as_rust.specs.Runs.{numbers-by}
 use Rattle.as_rust.proofs.Machine.{usize-is, less-is, i32-is, i32-cast, inside}
-use Rattle.as_rust.proofs.Tests.{T-true, or-true, or-false, above-0}
+use Rattle.as_rust.proofs.Tests.{T-true, or-true, or-false, above-0, at-least}
 use Rattle.as_rust.proofs.Loops.{rect-loop}
 use Rattle.as_rust.proofs.Tables.{Image}
 use Rattle.as_rust.proofs.Map.{clamped-is}
@@ -173,13 +173,6 @@ tests false b c t = refl
 tests true false c t = refl
 tests true true false t = refl
 tests true true true t = refl
-
-at-least : (n k : ℕ) → ltb n k ≡ not (leb k n)
-at-least n k = go (leb k n) refl
-  where
-    go : (t : Bool) → leb k n ≡ t → ltb n k ≡ not t
-    go true e = le-ltb n k (leb-true k n e)
-    go false e = lt-ltb n k (leb-false k n e)
 
 -- the four tests of 90-101 in their order, and 113-116
 abbrev decided : Bool → Bool → Bool → Bool → List (List Float) → List Float → List (List Float)

@@ -3,8 +3,8 @@
 use mathlib.Core.Path.{_≡_, refl, sym, ap, _∙_}
 use mathlib.Core.Bool.{Bool, true, false, cond}
 use Prim.Native.Nat.{ℕ, _+_, _-_, _*_, _/_, _^_, _≤_, _<_, min}
-use native.Mathlib.Nat.{add-mul, sub-add-cancel, mul-assoc, mul-comm, mul-right-comm, zero-mul, mul-pos}
-use native.Mathlib.Nat.{mul-le-mul-right, le-of-mul-le-mul-right, eq-of-mul-eq-mul-right, lt-of-lt-of-le, div-eq-of-lt}
+use native.Mathlib.Nat.{add-comm, add-mul, sub-add-cancel, mul-assoc, mul-comm, mul-right-comm, zero-mul, mul-pos}
+use native.Mathlib.Nat.{mul-le-mul-right, le-of-mul-le-mul-right, eq-of-mul-eq-mul-right, lt-of-lt-of-le, le-of-lt, div-eq-of-lt}
 use native.Mathlib.Omega.{arith}
 use borrow.Author.Tests.{ltb-true, ltb-false, le-ltb}
 use lib.Dec.{ltb, lit<, lit≤}
@@ -56,6 +56,23 @@ whole a b d n h D =
     let s : (a - b) * d + b * d ≡ a * d = sym (add-mul (a - b) b d) ∙ ap (λ (z : ℕ). z * d) (sub-add-cancel l) in
     (l, omega arith)
 
+-- ---- sums and differences of two fractions with one denominator
+
+less : (m n c : ℕ) → n ≤ m → (m - n) * c + n * c ≡ m * c
+less m n c b = sym (add-mul (m - n) n c) ∙ ap (λ (z : ℕ). z * c) (sub-add-cancel b)
+
+plus-frac : (c m n d a b a′ b′ : ℕ) → m * c + b * d ≡ a * d → n * c + b′ * d ≡ a′ * d → (m + n) * c + (b + b′) * d ≡ (a + a′) * d
+plus-frac c m n d a b a′ b′ h g = omega arith
+
+less-frac : (c m n d a b a′ b′ : ℕ) → n ≤ m → m * c + b * d ≡ a * d → n * c + a′ * d ≡ b′ * d → (m - n) * c + (b + b′) * d ≡ (a + a′) * d
+less-frac c m n d a b a′ b′ l h g = go (m - n) (less m n c l)
+  where
+    go : (z : ℕ) → z * c + n * c ≡ m * c → z * c + (b + b′) * d ≡ (a + a′) * d
+    go z e = omega arith
+
+more-frac : (c m n d a b a′ b′ : ℕ) → n ≤ m → m * c + b * d ≡ a * d → n * c + a′ * d ≡ b′ * d → (m - n) * c + (b′ + b) * d ≡ (a′ + a) * d
+more-frac c m n d a b a′ b′ l h g = rw (add-comm b′ b, add-comm a′ a) (less-frac c m n d a b a′ b′ l h g)
+
 module _ (k : ℕ) (l : k ≤ 149) where
   pub round-frac : (s : Bool) (n d a b : ℕ) → 0 < d → a < 2 ^ 24 + b → b < 2 ^ 24 + a → Frac (2 ^ k) s n d a b → Val k (round binary32 s n d) a b
   round-frac false n d a b D u v h =
@@ -65,30 +82,26 @@ module _ (k : ℕ) (l : k ≤ 149) where
       let w = whole b a d (n * 2 ^ k) h D in
       from-value k _ true n d a b D (over k true n d (b - a) l D (omega arith) (w .1)) h
 
-  -- ---- sums
-
-  less : (m n c : ℕ) → n ≤ m → (m - n) * c + n * c ≡ m * c
-  less m n c b = sym (add-mul (m - n) n c) ∙ ap (λ (z : ℕ). z * c) (sub-add-cancel b)
-
   sum-frac : (s t : Bool) (m n d a b a′ b′ : ℕ) → 0 < d → a + a′ < 2 ^ 24 + (b + b′) → b + b′ < 2 ^ 24 + (a + a′)
       → Frac (2 ^ k) s m d a b → Frac (2 ^ k) t n d a′ b′ → Val k (sum binary32 s m t n d) (a + a′) (b + b′)
   unfolding sum
-  sum-frac false false m n d a b a′ b′ D u v h g = round-frac false _ d _ _ D u v (omega arith)
-  sum-frac true true m n d a b a′ b′ D u v h g = round-frac true _ d _ _ D u v (omega arith)
+  sum-frac false false m n d a b a′ b′ D u v h g = round-frac false _ d _ _ D u v (plus-frac (2 ^ k) m n d a b a′ b′ h g)
+  sum-frac true true m n d a b a′ b′ D u v h g = round-frac true _ d _ _ D u v (plus-frac (2 ^ k) m n d b a b′ a′ h g)
   sum-frac false true m n d a b a′ b′ D u v h g = go (ltb m n) refl
     where
       go : (w : Bool) → ltb m n ≡ w → Val k (cond w (round binary32 true (n - m) d) (round binary32 false (m - n) d)) (a + a′) (b + b′)
-      go true e = round-frac true _ d _ _ D u v (let i : m < n = ltb-true m n e in omega (arith, less n m (2 ^ k) (omega arith)))
-      go false e = round-frac false _ d _ _ D u v (omega (arith, less m n (2 ^ k) (ltb-false m n e)))
+      go true e = round-frac true _ d _ _ D u v (more-frac (2 ^ k) n m d b′ a′ b a (le-of-lt (ltb-true m n e)) g h)
+      go false e = round-frac false _ d _ _ D u v (less-frac (2 ^ k) m n d a b a′ b′ (ltb-false m n e) h g)
   sum-frac true false m n d a b a′ b′ D u v h g = go (ltb m n) (ltb n m) refl refl
     where
       go : (w z : Bool) → ltb m n ≡ w → ltb n m ≡ z → Val k (cond w (round binary32 false (n - m) d) (round binary32 z (m - n) d)) (a + a′) (b + b′)
-      go true z e f = round-frac false _ d _ _ D u v (let i : m < n = ltb-true m n e in omega (arith, less n m (2 ^ k) (omega arith)))
-      go false true e f = round-frac true _ d _ _ D u v (omega (arith, less m n (2 ^ k) (ltb-false m n e)))
+      go true z e f = round-frac false _ d _ _ D u v (more-frac (2 ^ k) n m d a′ b′ a b (le-of-lt (ltb-true m n e)) g h)
+      go false true e f = round-frac true _ d _ _ D u v (less-frac (2 ^ k) m n d b a b′ a′ (ltb-false m n e) h g)
       go false false e f =
-          let i : m ≡ n = omega (arith, ltb-false m n e, ltb-false n m f) in
-          let z : m - n ≡ 0 = omega arith in
-          round-frac false _ d _ _ D u v (rw (z, zero-mul) (omega (arith, ap (λ (j : ℕ). j * 2 ^ k) i)))
+          let i : n ≤ m = ltb-false m n e in
+          let j : m ≤ n = ltb-false n m f in
+          let o : m - n ≡ n - m = omega arith in
+          rw o (round-frac false _ d _ _ D u v (more-frac (2 ^ k) n m d a′ b′ a b j g h))
 
   left : (s : Bool) (m d e a b : ℕ) → Frac (2 ^ k) s m d a b → Frac (2 ^ k) s (m * e) (d * e) a b
   left false m d e a b h = omega (arith, ap (λ (z : ℕ). z * e) h)

@@ -1,6 +1,5 @@
--- Ours is the Rust's (Crown: open this first), frames run through the text, its literals and its indices; then the steps, in the Rust's order.
+-- Ours is the Rust's (Crown: open this first), its literals and its indices; then the steps, in the Rust's order.
 pub mod Crown
-pub mod Worked
 pub mod Literals
 pub mod Indices
 pub mod Machine

@@ -1,33 +1,36 @@
 -- The Rust's saddle test, over an iterator of signed offsets, with any nearest root and sums from either zero, is document 01's. Assumes nothing.
 use mathlib.Core.Path.{_≡_, refl, sym, ap, _∙_}
 use mathlib.Core.Logic.{_⊎_, inl, inr}
-use mathlib.Core.Bool.{Bool, true, false, cond, _&&_}
-use mathlib.Core.List.{List, [], _∷_, foldl}
-use Prim.Native.Nat.{ℕ, zero, suc, _+_, _-_, _*_, _%_, _^_, _≤_, _<_}
+use mathlib.Core.Bool.{Bool, true, false, not, cond, _&&_}
+use mathlib.Core.List.{List, [], _∷_, _++_, foldl}
+use Prim.Native.Nat.{ℕ, zero, suc, _+_, _-_, _*_, _%_, _^_, _≤_, _<_, max}
 use native.Mathlib.Nat.{one-mul, mul-le-mul}
 use native.Mathlib.Omega.{arith}
 use borrow.Author.Tests.{leb-true, leb-false}
 use lib.Dec.{T, leb}
 use lib.ListN.{length}
-use lib.IntN.{ℤ, pos, negsuc}
+use lib.IntN.{ℤ, pos, negsuc, negℤ, _+ℤ_, _*ℤ_}
 use lib.Ieee.{Float, nan, inf, fin, binary32, minus, ofInt, ofBits, toBits, fits, add, mul, le}
 use lib.Ieee.Fits.{add-fits}
 use Rattle.float.proofs.Computed.{every, every-at, alike, alike-same}
 use Rattle.grid.proofs.Plane.{pixel-in}
-use Rattle.grid.specs.Each.{each, keep}
-use Rattle.grid.proofs.Each.{length-each}
-use Rattle.grid.specs.Rect.{Place, rect, range, from, line}
+use Rattle.grid.specs.Each.{each, once, keep}
+use Rattle.grid.proofs.Each.{each-append, length-each}
+use Rattle.grid.proofs.Rect.{keep-rect-ext}
+use Rattle.grid.specs.Rect.{Place, place, rect, range, from, line}
 use Rattle.grid.proofs.All.{all, all-map, all-keep, all-rect, InRect, foldl-same}
 use Rattle.grid.specs.Ways.{pixel}
-use Rattle.saddle.specs.Saddle.{noSums, noMoments, side, disk, inDisk, offset, around, overDisk, momentAdded, momentsOf, meanOf}
+use Rattle.saddle.specs.Saddle.{noSums, noMoments, side, apart, disk, inDisk, offset, around, overDisk, momentAdded, momentsOf, meanOf}
 use Rattle.saddle.specs.Saddle.{normAdded, normsOf, saddleOf, added, sumsOf, magnitude, squares, saddleAt, byCurvatures}
 use Rattle.saddle.specs.declared.Saddle.the-variants.{Yes, Flat, Curved}
 use Rattle.verdict.specs.Verdict.{isKept, bySaddle}
-use Rattle.saddle.proofs.Rooted.{nearestRoot, spreadSquared, trace, never-outside, by-root}
+use Rattle.saddle.proofs.Spread.{nearestRoot, spreadSquared, trace}
+use Rattle.saddle_root.proofs.Rooted.{never-outside, by-root}
 use Rattle.as_rust.specs.Machine.{Machine, Sound, _⊕_, _⊖_, _⊗_, _⊘_, lit-0, lit-minus-0, lit-1, lit-0·2, abs}
-use Rattle.as_rust.specs.Machine.{i64, as-usize, as-f32, as-f32-signed, wrapping-add-signed, byte-at}
-use Rattle.as_rust.specs.Detect.{offsets, disk as disk-of, new, accepts}
-use Rattle.as_rust.proofs.Machine.{usize-is, inside}
+use Rattle.as_rust.specs.Machine.{ltℤ, maxℤ, i64, as-isize, as-usize, as-f32, as-f32-signed, wrapping-add-signed, byte-at}
+use Rattle.as_rust.specs.Detect.{inclusive, offsets, disk as disk-of, new, accepts}
+use Rattle.as_rust.proofs.Machine.{usize-is, i64-is, inside}
+use Rattle.as_rust.proofs.Tests.{at-least}
 use Rattle.as_rust.proofs.Root.{root-is}
 
 -- ---- 223-231
@@ -36,18 +39,100 @@ use Rattle.as_rust.proofs.Root.{root-is}
 abbrev signed : ℕ → Place → ℤ × ℤ
 signed k p = (minus (p .x) k, minus (p .y) k)
 
--- the iterator gives document 01's disk in its order, and nothing on the way leaves isize: computed for each radius
-offsets-are : (m : Machine) (k : ℕ) → k ≤ 7 → offsets m k ≡ each (λ p. signed k p ∷ []) (disk k)
-unfolding offsets i64 disk each keep range from line rect inDisk
-offsets-are m zero l = refl
-offsets-are m (suc zero) l = refl
-offsets-are m (suc (suc zero)) l = refl
-offsets-are m (suc (suc (suc zero))) l = refl
-offsets-are m (suc (suc (suc (suc zero)))) l = refl
-offsets-are m (suc (suc (suc (suc (suc zero))))) l = refl
-offsets-are m (suc (suc (suc (suc (suc (suc zero)))))) l = refl
-offsets-are m (suc (suc (suc (suc (suc (suc (suc zero))))))) l = refl
-offsets-are m (suc (suc (suc (suc (suc (suc (suc (suc k)))))))) l = absurd (omega arith)
+-- the iterators give the columns and the rows of the square, and the bound is document 01's: computed for each radius
+abbrev signs : ℕ → List ℕ → List ℤ
+signs k is = each (λ i. minus i k ∷ []) is
+
+sides-are : (m : Machine) (k : ℕ) → k ≤ 7 → inclusive (i64 m (negℤ (as-isize k))) (as-isize k) ≡ signs k (range 0 (side k))
+    × (maxℤ (i64 m (as-isize k *ℤ as-isize k)) (pos 2) ≡ pos (max (k * k) 2))
+unfolding i64 each range from
+sides-are m zero l = (refl, refl)
+sides-are m (suc zero) l = (refl, refl)
+sides-are m (suc (suc zero)) l = (refl, refl)
+sides-are m (suc (suc (suc zero))) l = (refl, refl)
+sides-are m (suc (suc (suc (suc zero)))) l = (refl, refl)
+sides-are m (suc (suc (suc (suc (suc zero))))) l = (refl, refl)
+sides-are m (suc (suc (suc (suc (suc (suc zero)))))) l = (refl, refl)
+sides-are m (suc (suc (suc (suc (suc (suc (suc zero))))))) l = (refl, refl)
+sides-are m (suc (suc (suc (suc (suc (suc (suc (suc k)))))))) l = absurd (omega arith)
+
+-- a filter of each row is the filter of the square
+abbrev ours : ℕ → List Place → List (ℤ × ℤ)
+ours k = each (λ p. signed k p ∷ [])
+
+abbrev theirs : ℤ → List ℤ → List (ℤ × ℤ)
+theirs dy = each (λ dx. (dx, dy) ∷ [])
+
+module _ (k : ℕ) (test : ℤ → ℤ → Bool) where
+  abbrev passes : Place → Bool
+  passes p = test (minus (p .y) k) (minus (p .x) k)
+
+  row-is : (j : ℕ) (is : List ℕ) → theirs (minus j k) (keep (test (minus j k)) (signs k is))
+      ≡ ours k (keep passes (each (λ i. place i j ∷ []) is))
+  unfolding each keep
+  row-is j [] = refl
+  row-is j (i ∷ is) = go _ _ (test (minus j k) (minus i k)) (row-is j is)
+    where
+      go : (a : List ℤ) (b : List Place) (t : Bool) → theirs (minus j k) a ≡ ours k b
+          → theirs (minus j k) (once t (minus i k) ++ a) ≡ ours k (once t (place i j) ++ b)
+      go a b true e = ap (λ (r : List (ℤ × ℤ)). signed k (place i j) ∷ r) e
+      go a b false e = e
+
+  rows-are : (is js : List ℕ) → each (λ dy. theirs dy (keep (test dy) (signs k is))) (signs k js)
+      ≡ ours k (keep passes (each (λ j. each (λ i. place i j ∷ []) is) js))
+  unfolding each keep
+  rows-are is [] = refl
+  rows-are is (j ∷ js) =
+      let line = each (λ i. place i j ∷ []) is in
+      let rest = each (λ j. each (λ i. place i j ∷ []) is) js in
+      rw (each-append (λ p. once (passes p) p) line rest, each-append (λ p. signed k p ∷ []) (keep passes line) (keep passes rest))
+      (rw (row-is j is, rows-are is js))
+
+-- the offset's square has no sign
+squared : (i k : ℕ) → minus i k *ℤ minus i k ≡ pos (apart i k * apart i k)
+squared i k = go (leb k i) refl
+  where
+    go : (t : Bool) → leb k i ≡ t
+        → cond t (pos (i - k)) (negsuc (k - suc i)) *ℤ cond t (pos (i - k)) (negsuc (k - suc i)) ≡ pos (apart i k * apart i k)
+    go true e = let n : i - k ≡ apart i k = omega (arith, leb-true k i e) in ap (λ (z : ℕ). pos (z * z)) n
+    go false e = let n : suc (k - suc i) ≡ apart i k = omega (arith, leb-false k i e) in ap (λ (z : ℕ). pos (z * z)) n
+
+not-not : (t : Bool) → not (not t) ≡ t
+not-not true = refl
+not-not false = refl
+
+-- the iterator gives document 01's disk in its order, and nothing on the way leaves isize
+module _ (m : Machine) (k : ℕ) (l : k ≤ 7) where
+  -- the square of an offset is at most r2
+  near : ℤ → ℤ → ℤ → Bool
+  near r2 dy dx = not (ltℤ r2 (i64 m (i64 m (dx *ℤ dx) +ℤ i64 m (dy *ℤ dy))))
+
+  abbrev walked : ℤ → List ℤ → List (ℤ × ℤ)
+  walked r2 l = each (λ dy. theirs dy (keep (near r2 dy) l)) l
+
+  abbrev bound : ℤ
+  bound = pos (max (k * k) 2)
+
+  near-is : (i j : ℕ) → 0 ≤ i → i < side k → 0 ≤ j → j < side k → passes k (near bound) (place i j) ≡ inDisk k (place i j)
+  unfolding near inDisk
+  near-is i j o b p d =
+      let u = apart i k * apart i k in
+      let v = apart j k * apart j k in
+      let x : apart i k ≤ 7 = omega arith in
+      let y : apart j k ≤ 7 = omega arith in
+      let xx = mul-le-mul x x in
+      let yy = mul-le-mul y y in
+      rw (squared i k, squared j k, i64-is m u (omega arith), i64-is m v (omega arith), i64-is m (u + v) (omega arith))
+      (rw (at-least (max (k * k) 2) (u + v)) (not-not (leb (u + v) (max (k * k) 2))))
+
+  offsets-are : offsets m k ≡ ours k (disk k)
+  unfolding offsets disk rect line near
+  offsets-are =
+      let n = side k in
+      ap (λ (r2 : ℤ). walked r2 (inclusive (i64 m (negℤ (as-isize k))) (as-isize k))) (sides-are m k l .1)
+      ∙ ap (walked bound) (sides-are m k l .0)
+      ∙ rows-are k (near bound) (range 0 n) (range 0 n)
+      ∙ ap (ours k) (keep-rect-ext (passes k (near bound)) (inDisk k) 0 n 0 n near-is)
 
 -- ---- folds
 
@@ -87,12 +172,25 @@ normStep mean s o =
 abbrev floats : ℕ → Place → Two
 floats k p = (offset k (p .x), offset k (p .y))
 
--- `sum()` from -0.0 is `sum()` from 0.0: computed for each radius
-from-minus : ℕ → Bool
-from-minus k = alike (foldl (λ s p. momentStep s (floats k p)) lit-minus-0 (disk k)) (foldl (λ s p. momentStep s (floats k p)) lit-0 (disk k))
+-- `sum()` from -0.0 is `sum()` from 0.0, since the first step already is the same: computed for each radius
+module _ (k : ℕ) where
+  abbrev summed : Float → List Place → Float
+  summed = foldl (λ s p. momentStep s (floats k p))
+
+  begins : List Place → Bool
+  begins [] = false
+  begins (p ∷ ps) = alike (momentStep lit-minus-0 (floats k p)) (momentStep lit-0 (floats k p))
+
+  begun : (ps : List Place) → T (begins ps) → summed lit-minus-0 ps ≡ summed lit-0 ps
+  unfolding begins
+  begun [] t = absurd t
+  begun (p ∷ ps) t = ap (λ (s : Float). summed s ps) (alike-same _ _ t)
+
+  from-minus : Bool
+  from-minus = begins (disk k)
 
 either-start : T (every from-minus 8)
-unfolding every from-minus alike fits ofBits toBits add mul ofInt offset disk each keep range from line rect inDisk
+unfolding every from-minus begins alike fits ofBits toBits add mul ofInt offset disk each keep range from line rect inDisk
 either-start = tt
 
 module _ (m : Machine) (k : ℕ) (l : k ≤ 7) where
@@ -114,10 +212,9 @@ module _ (m : Machine) (k : ℕ) (l : k ≤ 7) where
       ap (foldl momentStep start) disk-is ∙ made momentStep (floats k) start (disk k) ∙ begin e ∙ sym
       (part noMoments (λ s. s .r2) _ _ (disk k) (λ s p. refl))
     where
-      begin : (start ≡ lit-0) ⊎ (start ≡ lit-minus-0) → foldl (λ s p. momentStep s (floats k p)) start (disk k)
-          ≡ foldl (λ s p. momentStep s (floats k p)) lit-0 (disk k)
+      begin : (start ≡ lit-0) ⊎ (start ≡ lit-minus-0) → summed k start (disk k) ≡ summed k lit-0 (disk k)
       begin (inl q) = rw q
-      begin (inr q) = rw q (alike-same _ _ (every-at from-minus 8 either-start k (omega arith)))
+      begin (inr q) = rw q (begun k (disk k) (every-at from-minus 8 either-start k (omega arith)))
 
   norms-are : (mean : Float) → foldl {B = Three} (normStep mean) (lit-0, lit-0, lit-0) (disk-of m k)
       ≡ (normsOf mean k .u, normsOf mean k .v, normsOf mean k .xy)

@@ -1,11 +1,12 @@
--- Two tests joined, read back. Assumes nothing.
+-- Two tests joined, read back, and one turned round. Assumes nothing.
 use mathlib.Core.Path.{_≡_, refl}
 use mathlib.Core.Logic.{_⊎_, inl, inr}
-use mathlib.Core.Bool.{Bool, true, false, _&&_, _||_, true≢false}
+use mathlib.Core.Bool.{Bool, true, false, not, _&&_, _||_, true≢false}
 use mathlib.Core.Path.{sym}
 use Prim.Native.Nat.{ℕ, zero, suc, _<_}
 use native.Mathlib.Omega.{arith}
-use lib.Dec.{T, eqb}
+use borrow.Author.Tests.{leb-true, leb-false, le-ltb, lt-ltb}
+use lib.Dec.{T, eqb, leb, ltb}
 
 pub and-true : (a b : Bool) → (a && b) ≡ true → (a ≡ true) × (b ≡ true)
 and-true true b e = (refl, e)
@@ -31,3 +32,10 @@ T-true false t = absurd t
 pub above-0 : (n : ℕ) → eqb n 0 ≡ false → 0 < n
 above-0 zero e = absurd (true≢false e)
 above-0 (suc n) e = omega arith
+
+pub at-least : (n k : ℕ) → ltb n k ≡ not (leb k n)
+at-least n k = go (leb k n) refl
+  where
+    go : (t : Bool) → leb k n ≡ t → ltb n k ≡ not t
+    go true e = le-ltb n k (leb-true k n e)
+    go false e = lt-ltb n k (leb-false k n e)

@@ -32,6 +32,10 @@ held i j b l =
     round-exact binary32 false (i * 2 ^ j) 1 i (j + 149) (lit< tt) b (lt-of-lt-of-le (shl-lt 24 (j + 149) b) (pow-mono m))
     (mul-assoc i (2 ^ j) (2 ^ 149) ∙ ap (λ (x : ℕ). i * x) (sym (pow-add 2 j 149)) ∙ sym (mul-one _))
 
+-- 2 ^ j
+pub power : (j : ℕ) → j ≤ 100 → Held (1 * 2 ^ j)
+power j l = held 1 j (lit< tt) l
+
 pub small-mono : {m n : ℕ} {x : Float} → m ≤ n → Small m x → Small n x
 small-mono l (small (sized {e = e} h)) = small (sized (le-trans h (mul-le-mul-right (down e) l)))
 

@@ -12,7 +12,7 @@ use lib.Ieee.{Float, nan, inf, fin, up, down, binary32, fits, ofBits, isNan, sub
 use lib.Ieee.Fits.{and-l, and-r, down-pos}
 use Rattle.float.specs.Values.{f0}
 use Rattle.float.proofs.Order.{le-lt-trans, le-of-not-lt}
-use Rattle.float.proofs.Sized.{Small, small, sized, small-mono, small-of-le, Held, held, div-number, zeroFloat}
+use Rattle.float.proofs.Sized.{Small, small, sized, small-mono, small-of-le, power, div-number, zeroFloat}
 use Rattle.float.proofs.Sized.{add-small, sub-small, mul-small}
 use Rattle.params.specs.declared.settings.PeakFitMode.{PeakFitMode}
 use Rattle.params.specs.declared.settings.PeakFitMode.the-variants.{Parabolic, Gaussian}
@@ -98,10 +98,6 @@ no-truth false t = refl
 constants : Small 2 f2 × Small 1 half
 unfolding ofBits
 constants = (small (sized (lit≤ tt)), small (sized (lit≤ tt)))
-
--- 2 ^ j is a value of the format
-power : (j : ℕ) → j ≤ 100 → Held (1 * 2 ^ j)
-power j l = held 1 j (lit< tt) l
 
 -- the Rust's `fit_peak_frac` on three numbers, or on their logarithms
 abbrev pub rustPeak : Float → Float → Float → Float

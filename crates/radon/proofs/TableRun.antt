@@ -4,8 +4,7 @@ use mathlib.Core.Path.{_≡_, refl}
 use mathlib.Core.List.{List, [], _∷_}
 use Prim.Native.Nat.{ℕ, _*_}
 use lib.ListN.{length}
-use lib.Ieee.{Float, nan, isNan, binary32, ofBits, toBits, ofInt, add, sub, mul, div, le, lt, round, units, odd, size, span, climb}
-use Rattle.float.specs.Values.{f1}
+use lib.Ieee.{isNan, binary32, ofBits, toBits, ofInt, add, sub, mul, div, le, lt, round, units, odd, size, span, climb}
 use Rattle.grid.specs.Fold.{fold}
 use Rattle.grid.specs.Plane.{plane}
 use Rattle.grid.specs.Each.{each, keep, any, count}
@@ -30,21 +29,25 @@ use Rattle.detect.specs.Corners.{corners, floorOf, inputAt, numbers}
 use Rattle.radon.specs.Finder.{found}
 use Rattle.radon.proofs.TableP.{frame}
 
--- the frame's settings, with radii and threshold to choose: "upsampling 1 .. parabolic .. least count 2"
-abbrev pub settings : ℕ → ℕ → ℕ → Float → RadonDetectorParams
-settings ray blur suppression threshold = record {
+-- parabolic settings by their numbers, in the document's order, and the threshold by its pattern
+abbrev pub parabolic : ℕ → ℕ → ℕ → ℕ → ℕ → ℕ → RadonDetectorParams
+parabolic ray factor blur threshold suppression least = record {
   «ray_radius» = ray;
-  «image_upsample» = 1;
+  «image_upsample» = factor;
   «response_blur_radius» = blur;
   «peak_fit» = Parabolic;
-  «threshold_rel» = threshold;
+  «threshold_rel» = ofBits binary32 threshold;
   «nms_radius» = suppression;
-  «min_cluster_size» = 2;
+  «min_cluster_size» = least;
 }
 
+-- the frame's settings, with radii and threshold to choose: "upsampling 1 .. parabolic .. least count 2"
+abbrev pub settings : ℕ → ℕ → ℕ → ℕ → RadonDetectorParams
+settings ray blur suppression threshold = parabolic ray 1 blur threshold suppression 2
+
 -- "ray 1 .. blur 0 .. suppression 1 .. threshold 3E8F5C29"
-abbrev pub fraction : Float
-fraction = ofBits binary32 0x3e8f_5c29
+abbrev pub fraction : ℕ
+fraction = 0x3e8f_5c29
 
 abbrev pub framed : RadonDetectorParams
 framed = settings 1 0 1 fraction
@@ -66,10 +69,10 @@ computed =
     ∷ answerTo 7 7 (settings 7 3 32 fraction)
     ∷ answerTo 7 7 (settings 8 3 32 fraction) ∷ answerTo 7 7 (settings 7 4 32 fraction) ∷ answerTo 7 7 (settings 7 3 33 fraction)
     -- a threshold of NaN
-    ∷ answerTo 7 7 (settings 1 0 1 nan)
+    ∷ answerTo 7 7 (settings 1 0 1 0x7fc0_0000)
     -- how many numbers the list has for the frame cut to 6 by 6, and at threshold 1.0
     ∷ length (listed 6 6 framed)
-    ∷ length (listed 7 7 (settings 1 0 1 f1))
+    ∷ length (listed 7 7 (settings 1 0 1 0x3f80_0000))
     -- the frame's own list
     ∷ listed 7 7 framed
 

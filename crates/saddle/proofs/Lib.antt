@@ -4,5 +4,5 @@ pub mod Table
 pub mod Walk
 pub mod Sign
 pub mod Fitting
-pub mod Rooted
+pub mod Spread
 pub mod Inside

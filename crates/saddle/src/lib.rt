@@ -137,12 +137,14 @@ fn disk_norms(mean: f32, k: usize) -> Sums
         let end = row.end;
         for ix in first..end {
             let dx = offset_of(k, ix);
-            let u = dx * dx + dy * dy - mean;
-            let v = dx * dx - dy * dy;
+            let xx = dx * dx;
+            let yy = dy * dy;
+            let u = xx + yy - mean;
+            let v = xx - yy;
             s = Sums {
                 u: s.u + u * u,
                 v: s.v + v * v,
-                xy: s.xy + dx * dx * dy * dy,
+                xy: s.xy + xx * dy * dy,
             };
         }
     }
@@ -201,9 +203,11 @@ fn project(t: SaddleTest, k: usize, image: &[u8], w: usize, h: usize, x: usize, 
         for ix in first..end {
             let dx = offset_of(k, ix);
             let i = image[start + ix] as f32;
+            let xx = dx * dx;
+            let yy = dy * dy;
             s = Sums {
-                u: s.u + (dx * dx + dy * dy - t.mean_r2) * i,
-                v: s.v + (dx * dx - dy * dy) * i,
+                u: s.u + (xx + yy - t.mean_r2) * i,
+                v: s.v + (xx - yy) * i,
                 xy: s.xy + dx * dy * i,
             };
         }

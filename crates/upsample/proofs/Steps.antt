@@ -1,10 +1,11 @@
 -- The steps of upsampling: two pixels of a row, a working row at either factor, and where the rows lie. Assumes nothing.
-use mathlib.Core.Path.{_≡_, refl, sym, _∙_}
+use mathlib.Core.Path.{_≡_, refl, sym, ap, _∙_}
 use Prim.Native.Nat.{ℕ, zero, suc, _+_, _-_, _*_, _/_, _%_, _≤_, _<_, min}
 use native.Mathlib.Nat.{one-mul}
 use native.Mathlib.Omega.{arith}
 use mathlib.Core.List.{List}
-use lib.ListN.{set, getD}
+use lib.ListN.{length, take, drop, set, getD, length-drop}
+use lib.Seq.{take-all, getD-drop}
 use Rattle.grid.proofs.Loops.{Line, line-more, line-all}
 use Rattle.grid.specs.Fill.{filled}
 use Rattle.grid.proofs.Fill.{filled-zero, filled-ext}
@@ -51,6 +52,15 @@ module _ (t l : ℕ → ℕ) (w : ℕ) where
   -- no column at all
   pub line-empty : (xs : List ℕ) → w ≡ 0 → xs ≡ filled (2 * w) (between t l w) xs
   line-empty xs e = rw e (filled-zero _ xs)
+
+-- ---- the row of the image that starts at a
+
+module _ (a : ℕ) (s : List ℕ) where
+  pub part-from : take (length s - a) (drop a s) ≡ drop a s
+  part-from = take-all (length s - a) (drop a s) (omega (arith, length-drop a s))
+
+  pub part-at : (k : ℕ) → getD (take (length s - a) (drop a s)) k 0 ≡ getD s (a + k) 0
+  part-at k = ap (λ (l : List ℕ). getD l k 0) part-from ∙ getD-drop a s k 0
 
 -- ---- a working row
 

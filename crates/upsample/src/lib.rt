@@ -20,11 +20,11 @@ fn quarter_sum(p: u8, q: u8, s: u8, t: u8) -> u8
     ((p as u16 + q as u16 + s as u16 + t as u16 + 2) / 4) as u8
 }
 
-// The row between the rows of src that start at a and b, twice as wide: two pixels a turn, the last column apart.
-fn row_kernel(src: &[u8], a: usize, b: usize, w: usize, dst: &mut [u8])
-    requires { ⌜ (w ≤ 4096) × (a + w ≤ length (now src)) × (b + w ≤ length (now src)) × (2 * w ≤ length (now dst)) ⌝ }
+// The row between two rows of the image, twice as wide: two pixels a turn, the last column apart.
+fn row_kernel(top: &[u8], low: &[u8], w: usize, dst: &mut [u8])
+    requires { ⌜ (w ≤ 4096) × (w ≤ length (now top)) × (w ≤ length (now low)) × (2 * w ≤ length (now dst)) ⌝ }
     ensures { λ _. ⌜ now (dst .exit) ≡ filled (2 * w)
-        (between (λ k. getD (now (src .entry)) (a + k) 0) (λ k. getD (now (src .entry)) (b + k) 0) w)
+        (between (λ k. getD (now (top .entry)) k 0) (λ k. getD (now (low .entry)) k 0) w)
         (now (dst .entry)) ⌝ }
 {
     if w == 0 {
@@ -32,18 +32,21 @@ fn row_kernel(src: &[u8], a: usize, b: usize, w: usize, dst: &mut [u8])
     }
     let last = w - 1;
     for x in 0..last {
-        let p = src[a + x];
-        let q = src[a + (x + 1)];
-        let s = src[b + x];
-        let t = src[b + (x + 1)];
-        dst[2 * x] = quarter_sum(p, p, s, s);
-        dst[2 * x + 1] = quarter_sum(p, q, s, t);
+        let n = x + 1;
+        let i = 2 * x;
+        let p = top[x];
+        let q = top[n];
+        let s = low[x];
+        let t = low[n];
+        dst[i] = quarter_sum(p, p, s, s);
+        dst[i + 1] = quarter_sum(p, q, s, t);
     }
-    let p = src[a + last];
-    let s = src[b + last];
+    let i = 2 * last;
+    let p = top[last];
+    let s = low[last];
     let m = quarter_sum(p, p, s, s);
-    dst[2 * last] = m;
-    dst[2 * last + 1] = m;
+    dst[i] = m;
+    dst[i + 1] = m;
 }
 
 // The n entries of src from a on.
@@ -64,7 +67,7 @@ fn work_row(src: &[u8], w: usize, h: usize, factor: u32, y: usize, out: &mut [u8
     if factor == 2 {
         let a = y / 2 * w;
         let b = sizes::lesser((y + y % 2) / 2, h - 1) * w;
-        row_kernel(src, a, b, w, out);
+        row_kernel(&src[a..], &src[b..], w, out);
     } else {
         copy(src, y * w, w, out);
     }

@@ -9,13 +9,13 @@ mul-result : tie.Need-mul-result
 mul-result c = fits-le (mul-le-mul (c .before .if1 .taken) (c .if2 .taken)) (fits-lit tt)
 
 returns : tie.Need-returns
-returns c = rw (le-leb _ _ (c .before .if1 .taken), le-leb _ _ (c .if2 .taken))
+returns c = rw (le-leb _ 8192 (c .before .if1 .taken), le-leb _ 8192 (c .if2 .taken))
 
 returns-2 : tie.Need-returns-2
-returns-2 c = rw (le-leb _ _ (c .before .if1 .taken), lt-leb _ _ (c .if2 .left))
+returns-2 c = rw (le-leb _ 8192 (c .before .if1 .taken), lt-leb _ 8192 (c .if2 .left))
 
 returns-3 : tie.Need-returns-3
-returns-3 c = rw (lt-leb _ _ (c .if1 .left))
+returns-3 c = rw (lt-leb _ 8192 (c .if1 .left))
 
 pub fits-spec : {M : Type 1} → statement M
 fits-spec = tie.close (tie.spec mul-result returns returns-2 returns-3)

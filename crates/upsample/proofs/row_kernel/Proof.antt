@@ -10,11 +10,10 @@ use Rattle.upsample.proofs.row_kernel.Statement.{statement}
 use Rattle.upsample.proofs.row_kernel.Tie as tie
 
 abbrev Inv-loop : tie.InvT-loop
-Inv-loop src a b w dst₀ last x₀ dst x =
-    (x ≤ last) × Line (2 * w) (between (λ k. getD src (a + k) 0) (λ k. getD src (b + k) 0) w) dst₀ dst (2 * x)
+Inv-loop top low w dst₀ last x₀ dst x = (x ≤ last) × Line (2 * w) (between (λ k. getD top k 0) (λ k. getD low k 0) w) dst₀ dst (2 * x)
 
 abbrev μ-loop : tie.MeasureT-loop
-μ-loop src a b w dst₀ last x₀ dst x = last - x
+μ-loop top low w dst₀ last x₀ dst x = last - x
 
 -- the turn's start, and the loop's end
 abbrev turn : tie.After-quarter-sum2 Inv-loop μ-loop → tie.At-loop Inv-loop μ-loop
@@ -32,32 +31,20 @@ sub-last c = omega arith
 loop-holds : tie.Need-loop-holds Inv-loop μ-loop
 loop-holds c = (omega arith, line-none _ _ _)
 
-add-p : tie.Need-add-p Inv-loop μ-loop
-add-p c = omega arith
+add-n : tie.Need-add-n Inv-loop μ-loop
+add-n c = omega arith
+
+mul-i : tie.Need-mul-i Inv-loop μ-loop
+mul-i c = omega arith
 
 shared-slice-read-p : tie.Need-shared-slice-read-p Inv-loop μ-loop
 shared-slice-read-p c = omega arith
 
-add-q : tie.Need-add-q Inv-loop μ-loop
-add-q c = omega arith
-
-add-q-2 : tie.Need-add-q-2 Inv-loop μ-loop
-add-q-2 c = omega arith
-
 shared-slice-read-q : tie.Need-shared-slice-read-q Inv-loop μ-loop
 shared-slice-read-q c = omega arith
 
-add-s : tie.Need-add-s Inv-loop μ-loop
-add-s c = omega arith
-
 shared-slice-read-s : tie.Need-shared-slice-read-s Inv-loop μ-loop
 shared-slice-read-s c = omega arith
-
-add-t : tie.Need-add-t Inv-loop μ-loop
-add-t c = omega arith
-
-add-t-2 : tie.Need-add-t-2 Inv-loop μ-loop
-add-t-2 c = omega arith
 
 shared-slice-read-t : tie.Need-shared-slice-read-t Inv-loop μ-loop
 shared-slice-read-t c = omega arith
@@ -65,17 +52,11 @@ shared-slice-read-t c = omega arith
 quarter-sum-requires : tie.Need-quarter-sum-requires Inv-loop μ-loop
 quarter-sum-requires c κs = omega arith
 
-mul-dst : tie.Need-mul-dst Inv-loop μ-loop
-mul-dst c = omega arith
-
 slice-write-dst : tie.Need-slice-write-dst Inv-loop μ-loop
 slice-write-dst c = omega arith
 
 quarter-sum-requires-2 : tie.Need-quarter-sum-requires-2 Inv-loop μ-loop
 quarter-sum-requires-2 c κs = omega arith
-
-mul-dst-2 : tie.Need-mul-dst-2 Inv-loop μ-loop
-mul-dst-2 c = omega arith
 
 add-dst : tie.Need-add-dst Inv-loop μ-loop
 add-dst c = omega arith
@@ -95,14 +76,11 @@ loop-again c =
     let level = c .before .quarter-sum .ensures in
     (omega arith, line-two _ _ _ (l .x) (l .x + 1) (l .inv .1) (omega arith) (omega arith) level (c .quarter-sum2 .ensures))
 
-add-p-2 : tie.Need-add-p-2 Inv-loop μ-loop
-add-p-2 c = omega arith
+mul-i-2 : tie.Need-mul-i-2 Inv-loop μ-loop
+mul-i-2 c = omega arith
 
 shared-slice-read-p-2 : tie.Need-shared-slice-read-p-2 Inv-loop μ-loop
 shared-slice-read-p-2 c = omega arith
-
-add-s-2 : tie.Need-add-s-2 Inv-loop μ-loop
-add-s-2 c = omega arith
 
 shared-slice-read-s-2 : tie.Need-shared-slice-read-s-2 Inv-loop μ-loop
 shared-slice-read-s-2 c = omega arith
@@ -110,14 +88,8 @@ shared-slice-read-s-2 c = omega arith
 quarter-sum-requires-3 : tie.Need-quarter-sum-requires-3 Inv-loop μ-loop
 quarter-sum-requires-3 c κs = omega arith
 
-mul-dst-3 : tie.Need-mul-dst-3 Inv-loop μ-loop
-mul-dst-3 c = omega arith
-
 slice-write-dst-3 : tie.Need-slice-write-dst-3 Inv-loop μ-loop
 slice-write-dst-3 c = omega arith
-
-mul-dst-4 : tie.Need-mul-dst-4 Inv-loop μ-loop
-mul-dst-4 c = omega arith
 
 add-dst-2 : tie.Need-add-dst-2 Inv-loop μ-loop
 add-dst-2 c = omega arith
@@ -140,34 +112,25 @@ row-kernel-spec =
     returns
     sub-last
     loop-holds
-    add-p
+    add-n
+    mul-i
     shared-slice-read-p
-    add-q
-    add-q-2
     shared-slice-read-q
-    add-s
     shared-slice-read-s
-    add-t
-    add-t-2
     shared-slice-read-t
     quarter-sum-requires
-    mul-dst
     slice-write-dst
     quarter-sum-requires-2
-    mul-dst-2
     add-dst
     slice-write-dst-2
     add-x
     loop-less
     loop-again
-    add-p-2
+    mul-i-2
     shared-slice-read-p-2
-    add-s-2
     shared-slice-read-s-2
     quarter-sum-requires-3
-    mul-dst-3
     slice-write-dst-3
-    mul-dst-4
     add-dst-2
     slice-write-dst-4
     same-length

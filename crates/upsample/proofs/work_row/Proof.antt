@@ -2,9 +2,9 @@
 use mathlib.Core.Path.{_≡_, refl}
 use Prim.Native.Nat.{_+_, _-_, _/_, _%_, min}
 use native.Mathlib.Omega.{arith}
-use lib.ListN.{length}
+use lib.ListN.{length, length-drop}
 use borrow.Author.Needs.{needs}
-use Rattle.upsample.proofs.Steps.{Beside, beside, Alone, alone, doubled, copied}
+use Rattle.upsample.proofs.Steps.{part-from, part-at, Beside, beside, Alone, alone, doubled, copied}
 use Rattle.upsample.proofs.work_row.Statement.{statement}
 use Rattle.upsample.proofs.work_row.Tie as tie
 
@@ -50,8 +50,26 @@ lesser-requires c κs = search needs
 mul-b : tie.Need-mul-b
 mul-b c = omega (arith, both c)
 
+sub-row-kernel : tie.Need-sub-row-kernel
+sub-row-kernel c = omega (arith, both c)
+
+part-row-kernel-start : tie.Need-part-row-kernel-start
+part-row-kernel-start c = omega (arith, both c)
+
+part-row-kernel-end : tie.Need-part-row-kernel-end
+part-row-kernel-end c = search needs
+
+sub-row-kernel-2 : tie.Need-sub-row-kernel-2
+sub-row-kernel-2 c = omega (arith, both (c .before))
+
+part-row-kernel-start-2 : tie.Need-part-row-kernel-start-2
+part-row-kernel-start-2 c = omega (arith, both (c .before))
+
+part-row-kernel-end-2 : tie.Need-part-row-kernel-end-2
+part-row-kernel-end-2 c = search needs
+
 row-kernel-requires : tie.Need-row-kernel-requires
-row-kernel-requires c κs = omega (arith, both (c .before))
+row-kernel-requires c κs = simp (part-from, length-drop) (omega (arith, both (c .before .before .before)))
 
 mul-copy : tie.Need-mul-copy
 mul-copy c = omega (arith, own c)
@@ -65,11 +83,11 @@ same-length c = search needs
 returns : tie.Need-returns
 returns c =
     let k = c .before .before in
-    let l = k .before .before in
+    let l = k .before .before .before .before in
     let s = start (l .before) in
     let p = s .args in
     doubled (p .src .now) (p .w) (p .h) (p .y) (p .factor) (p .out .now) (l .before .if1 .taken) (s .pre .row) (l .lesser .ensures)
-    (k .row-kernel .ensures)
+    (simp part-at at (k .row-kernel .ensures))
 
 same-length-2 : tie.Need-same-length-2
 same-length-2 c = search needs
@@ -90,6 +108,12 @@ work-row-spec =
     sub-lesser
     lesser-requires
     mul-b
+    sub-row-kernel
+    part-row-kernel-start
+    part-row-kernel-end
+    sub-row-kernel-2
+    part-row-kernel-start-2
+    part-row-kernel-end-2
     row-kernel-requires
     mul-copy
     copy-requires

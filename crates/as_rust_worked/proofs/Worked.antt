@@ -9,29 +9,17 @@ use Rattle.grid.specs.Each.{each, keep}
 use Rattle.grid.specs.Rect.{range, from}
 use Rattle.scalar.specs.Root.{rootBits}
 use Rattle.params.specs.declared.settings.RadonDetectorParams.{RadonDetectorParams}
-use Rattle.params.specs.declared.settings.PeakFitMode.the-variants.{Parabolic}
+use Rattle.radon.proofs.TableRun.{parabolic, fraction, framed}
 use Rattle.as_rust.specs.Machine.{sat, floor, rounded, clamp, max-f32, abs, i64, i32, usize, u32, less}
 use Rattle.as_rust.specs.Machine.{put, copy-from-slice, resize, times, for-signed, chunks}
 use Rattle.as_rust.specs.Primitives.{peak-frac, fit-peak-frac, horiz-px, horiz-kernel, vert-kernel, box-blur-inplace}
 use Rattle.as_rust.specs.Response.{s-h, s-v, s-d1, s-d2, new, ensure-capacity, out-px, row-kernel, upsample-bilinear-2x, sat-row, sat-col}
 use Rattle.as_rust.specs.Response.{sat-diag-pos, sat-diag-neg, radon-response-at, compute-response-row, compute-response, radon-response-u8}
 use Rattle.as_rust.specs.Neighbors.{is-local-max, count-positive-neighbors}
 use Rattle.as_rust.specs.Detect.{relative-floor, offsets, new as new-saddle, accepts}
 use Rattle.as_rust.specs.Detect.{process-pixel, greatest, border-of, detect-peaks-from-radon}
 use Rattle.as_rust.specs.Runs.{found-by}
 use Rattle.as_rust.proofs.Crown.{ours}
-
--- parabolic settings by their numbers, in the document's order
-abbrev settings : ℕ → ℕ → ℕ → ℕ → ℕ → ℕ → RadonDetectorParams
-settings ray factor blur threshold suppression least = record {
-  «ray_radius» = ray;
-  «image_upsample» = factor;
-  «response_blur_radius» = blur;
-  «peak_fit» = Parabolic;
-  «threshold_rel» = ofBits binary32 threshold;
-  «nms_radius» = suppression;
-  «min_cluster_size» = least;
-}
 
 abbrev corner : ℕ → ℕ → ℕ → List Float
 corner x y strength = ofBits binary32 x ∷ ofBits binary32 y ∷ ofBits binary32 strength ∷ []
@@ -51,7 +39,7 @@ document-frame = 200 ∷ 200 ∷ 200 ∷ 100 ∷ 0 ∷ 0 ∷ 0
     ∷ 0 ∷ 0 ∷ 0 ∷ 100 ∷ 200 ∷ 200 ∷ 200 ∷ []
 
 abbrev document-settings : RadonDetectorParams
-document-settings = settings 1 1 0 0x3e8f_5c29 1 2
+document-settings = framed
 
 -- 5 by 3 at factor 2, blur radius 2, no suppression: six corners
 abbrev small-frame : List ℕ
@@ -60,7 +48,7 @@ small-frame = 60 ∷ 66 ∷ 60 ∷ 53 ∷ 53
     ∷ 38 ∷ 43 ∷ 45 ∷ 47 ∷ 24 ∷ []
 
 abbrev small-settings : RadonDetectorParams
-small-settings = settings 1 2 2 0x3dcc_cccd 0 0
+small-settings = parabolic 1 2 2 0x3dcc_cccd 0 0
 
 -- 14 by 11, ray radius 2: four corners with offsets
 abbrev plain-frame : List ℕ
@@ -77,7 +65,7 @@ plain-frame = 153 ∷ 153 ∷ 153 ∷ 153 ∷ 153 ∷ 153 ∷ 153 ∷ 42 ∷ 42 
     ∷ 153 ∷ 153 ∷ 153 ∷ 153 ∷ 153 ∷ 153 ∷ 153 ∷ 153 ∷ 153 ∷ 153 ∷ 153 ∷ 153 ∷ 153 ∷ 153 ∷ []
 
 abbrev plain-settings : RadonDetectorParams
-plain-settings = settings 2 1 0 0x3e8f_5c29 2 1
+plain-settings = parabolic 2 1 0 fraction 2 1
 
 -- what the compiled Rust prints for them
 pub record Runs : Type 0 where

@@ -7,23 +7,19 @@ use Prim.Native.Nat.{ℕ, zero, suc, _+_, _-_, _*_, _^_, _≤_, _<_}
 use native.Mathlib.Omega.{arith}
 use lib.Dec.{T, leb, lit<, lit≤, leb→le, nleb→lt}
 use lib.IntN.{pos, negsuc}
-use lib.Ieee.{Float, nan, inf, fin, up, down, binary32, toBits, ofBits, ofInt, add, sub, mul, div}
+use lib.Ieee.{Float, nan, inf, fin, up, down, binary32, ofBits, ofInt, add, sub, mul, div}
 use lib.Ieee.Fits.{and-l, and-r}
 use Rattle.float.proofs.Computed.{every, every-at}
-use Rattle.float.proofs.Sized.{Sized, sized, Small, small, Held, held, small-mono, round-sized}
+use Rattle.float.proofs.Sized.{Sized, sized, Small, small, held, power, small-mono, round-sized}
 use Rattle.float.proofs.Sized.{mul-small, add-small, sub-small, add-plus, square-plus}
 use Rattle.grid.specs.Each.{each, keep}
 use Rattle.grid.specs.Rect.{Place, from, range, line, rect}
-use Rattle.scalar.specs.Root.{rootOf, rootBits}
+use Rattle.scalar.specs.Root.{rootOf}
 use Rattle.scalar.specs.declared.Root.the-variants.{Value}
 use Rattle.saddle.specs.declared.SaddleTest.{SaddleTest}
-use Rattle.saddle.specs.declared.Sums.{Sums}
 use Rattle.saddle.specs.Saddle.{f4, f16, offset, disk, overDisk, noSums, added, around, sumsOf, saddleOf}
 use Rattle.saddle.specs.Saddle.{squares, byCurvatures, judge, saddleAt}
-
--- 2 ^ j is a value of the format
-pub power : (j : ℕ) → j ≤ 100 → Held (1 * 2 ^ j)
-power j l = held 1 j (lit< tt) l
+use Rattle.saddle.proofs.Spread.{Added, nearestRoot, spreadSquared, trace}
 
 -- ---- what a radius fixes: one test, computed for each
 
@@ -76,7 +72,7 @@ unfolding ofInt
 pixel-small v b = small (round-sized false v 1 4096 (lit< tt) (power 12 (lit≤ tt)) (omega arith))
 
 -- the two sums after m places
-record After (m : ℕ) (s : Sums) : Type 0 where
+record After (m : ℕ) (s : Added) : Type 0 where
   v : Small (m * 2 ^ 22) (s .v)
   xy : Small (m * 2 ^ 22) (s .xy)
 
@@ -91,7 +87,7 @@ module _ (m : ℕ) (few-places : m < 256) where
   times : {x y : Float} → Small 512 x → Small 4096 y → Small (2 ^ 22) (mul binary32 x y)
   times h k = mul-small (2 ^ 22) (power 22 (lit≤ tt)) (lit≤ tt) h k
 
-  place-added : (t : SaddleTest) (dx dy i : Float) (s : Sums) → Small 16 dx → Small 16 dy → Small 4096 i → After m s
+  place-added : (t : SaddleTest) (dx dy i : Float) (s : Added) → Small 16 dx → Small 16 dy → Small 4096 i → After m s
       → After (m + 1) (added t dx dy i s)
   unfolding added
   place-added t dx dy i s X Y I A = record {
@@ -102,10 +98,10 @@ module _ (m : ℕ) (few-places : m < 256) where
 -- ---- the places of a list
 
 module _ (t : SaddleTest) (k : ℕ) (f : ℕ → ℕ → ℕ) (x y : ℕ) (radius : k ≤ 7) (deep : (i j : ℕ) → f i j ≤ 4095) where
-  abbrev next : Sums → Place → Sums
+  abbrev next : Added → Place → Added
   next s p = added t (offset k (p .x)) (offset k (p .y)) (around k f x y p) s
 
-  places-added : (n m : ℕ) (ps : List Place) (s : Sums) → n + m ≤ 256 → T (few n ps) → After m s
+  places-added : (n m : ℕ) (ps : List Place) (s : Added) → n + m ≤ 256 → T (few n ps) → After m s
       → After 256 (foldl next s ps)
   unfolding few
   places-added n m [] s b h A = record { v = small-mono (omega arith) (A .v); xy = small-mono (omega arith) (A .xy) }
@@ -135,23 +131,12 @@ squares-plus q b Q B =
     (square-plus (2 ^ 34) (2 ^ 64) (power 34 (lit≤ tt)) (power 64 (lit≤ tt)) (lit≤ tt) (lit≤ tt) sixteen Q)
     (square-plus (2 ^ 32) (2 ^ 62) (power 32 (lit≤ tt)) (power 62 (lit≤ tt)) (lit≤ tt) (lit≤ tt) four B)
 
--- the nearest root of a number that is not negative
-abbrev pub nearestRoot : Float → Float
-nearestRoot x = ofBits binary32 (rootBits (toBits binary32 x))
-
 has-root : {n : ℕ} {x : Float} → Sized false n x → rootOf x ≡ Value (nearestRoot x)
 unfolding rootOf
 has-root (sized h) = refl
 
--- the number that `judge` takes the root of, and the trace that it compares with the root
-abbrev pub spreadSquared : SaddleTest → Sums → Float
-spreadSquared t s = squares (mul binary32 (s .v) (t .«inv_v»)) (mul binary32 (s .xy) (t .«inv_xy»))
-
-abbrev pub trace : SaddleTest → Sums → Float
-trace t s = mul binary32 f4 (mul binary32 (s .u) (t .«inv_u»))
-
 module _ (k : ℕ) (f : ℕ → ℕ → ℕ) (x y : ℕ) (least : 1 ≤ k) (most : k ≤ 7) (deep : (i j : ℕ) → f i j ≤ 4095) where
-  abbrev sums : Sums
+  abbrev sums : Added
   sums = sumsOf (saddleOf k) k f x y
 
   sums-small : After 256 sums

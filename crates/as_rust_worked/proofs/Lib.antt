@@ -1,0 +1,2 @@
+-- Three frames run through the text.
+pub mod Worked

@@ -1,0 +1,2 @@
+-- The saddle test's root.
+pub mod Rooted
