@@ -132,7 +132,8 @@ pub not-worth : (r : ℕ) (floor : Float) (s : List Float) (k : ℕ) → worth r
     → (over floor s k ≡ false) ⊎ ((0 < r) × (crest floor s k ≡ false))
 not-worth r floor s k h = go (ltb 0 r) refl h
   where
-    go : (t : Bool) → ltb 0 r ≡ t → cond t (crest floor s k) (over floor s k) ≡ false → (over floor s k ≡ false) ⊎ ((0 < r) × (crest floor s k ≡ false))
+    go : (t : Bool) → ltb 0 r ≡ t → cond t (crest floor s k) (over floor s k) ≡ false
+        → (over floor s k ≡ false) ⊎ ((0 < r) × (crest floor s k ≡ false))
     go true e u = inr (ltb-true 0 r e, u)
     go false e u = inl u
 

@@ -1,7 +1,7 @@
 -- What is told of a candidate, a turn of the scan, a row and all rows: the steps behind `peaks`. Assumes nothing.
 use mathlib.Core.Path.{_≡_, refl, sym, ap, _∙_}
 use mathlib.Core.Logic.{_⊎_, inl, inr}
-use mathlib.Core.Bool.{Bool, true, false, not, _&&_, cond, true≢false}
+use mathlib.Core.Bool.{Bool, true, false, not, _&&_, true≢false}
 use Prim.Native.Nat.{ℕ, _+_, _-_, _*_, _/_, _≤_, _<_, _^_, min}
 use native.Mathlib.Decide.{decLe}
 use native.Mathlib.Omega.{arith}
@@ -28,7 +28,6 @@ use Rattle.params.specs.declared.settings.RadonDetectorParams.{RadonDetectorPar
 use Rattle.params.specs.Settings.{rayOf}
 use Rattle.saddle.specs.declared.SaddleTest.{SaddleTest}
 use Rattle.verdict.specs.declared.Verdict.{Verdict}
-use Rattle.verdict.specs.declared.Verdict.the-variants.{NotAbove}
 use Rattle.verdict.specs.declared.Scan.{Scan}
 use Rattle.saddle.specs.Saddle.{saddleNumbers}
 use Rattle.saddle.specs.Steps.{Around}
@@ -38,7 +37,7 @@ use Rattle.verdict.specs.Window.{at, beaten, positives}
 use Rattle.crests.specs.Crests.{over, crest, Sought}
 use Rattle.crests.proofs.Passing.{sought-plain, not-worth}
 use Rattle.detect.specs.Corners.{candidates, floorOf, corners, stride, numbers}
-use Rattle.verdict.specs.Verdict.{firstFailing, isSaddle, isKept, verdict, windowFits, firstFailingIn}
+use Rattle.verdict.specs.Verdict.{firstFailing, isSaddle, isKept, verdict, judgedIn}
 use Rattle.verdict.specs.Room.{Cross}
 use Rattle.detect.specs.Scan.{scanOf, floorIn, verdictIn, keptIn, numbersIn, fittedAt, borderIn, rowsAbove}
 use Rattle.detect.specs.Scan.{Asked, Judging, Candidate, Finding, NextInRow, Entered, RowFound, Found}
@@ -82,7 +81,7 @@ module _ {s : Scan} {x y resp image : ℕ} (c : Candidate s x y resp image) wher
 
 -- so what is told of it is its verdict
 pub judged-is : (s : Scan) (resp : List Float) (image : List ℕ) (x y : ℕ) {v : Verdict} → Candidate s x y (length resp) (length image)
-    → v ≡ cond (windowFits s (length resp) x y) (firstFailingIn s resp image x y) NotAbove → v ≡ verdictIn s resp image (place x y)
+    → v ≡ judgedIn s resp image x y → v ≡ verdictIn s resp image (place x y)
 judged-is s resp image x y c e = judged-plain s resp image x y (window-room c) (disk-room c) (c .judging .test) e
 
 -- ---- a corner's numbers, stored

@@ -22,7 +22,7 @@ use Rattle.verdict.specs.declared.Verdict.{Verdict}
 use Rattle.verdict.specs.declared.Verdict.the-variants.{NotAbove, Beaten, TooFew}
 use Rattle.verdict.specs.declared.Scan.{Scan}
 use Rattle.verdict.specs.Window.{beaten, positives}
-use Rattle.verdict.specs.Verdict.{bySaddle, firstFailing, verdict, windowFits, saddleIn, firstFailingIn}
+use Rattle.verdict.specs.Verdict.{bySaddle, firstFailing, verdict, windowFits, saddleIn, firstFailingIn, judgedIn}
 use Rattle.verdict.specs.Room.{Room}
 
 -- ---- a window that fits lies in the map
@@ -91,7 +91,6 @@ module _ (s : Scan) (resp : List Float) (image : List ℕ) (x y : ℕ) where
 
   pub judged-plain : {v : Verdict} → Square (s .params .«nms_radius») (length resp) (s .w) (s .h) x y
       → Around (rayOf (s .params .«ray_radius»)) (length image) (s .w) (s .h) x y → s .test ≡ saddleOf (rayOf (s .params .«ray_radius»))
-      → v ≡ cond (windowFits s (length resp) x y) (firstFailingIn s resp image x y) NotAbove
-      → v ≡ verdict (s .params) (s .floor) map (pixel image (s .w)) here
+      → v ≡ judgedIn s resp image x y → v ≡ verdict (s .params) (s .floor) map (pixel image (s .w)) here
   unfolding firstFailingIn verdict
   judged-plain w d t e = rw (square-so w, accepts-plain d (s .test) (pixel image (s .w)) refl, t) at e

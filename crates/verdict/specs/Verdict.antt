@@ -68,3 +68,7 @@ firstFailingIn c resp image x y =
     firstFailing (lt (c .floor) (value resp (c .w) x y)) (not (beaten (value resp (c .w)) (c .params .«nms_radius») (place x y)))
     (leb (c .params .«min_cluster_size») (positives (value resp (c .w)) (c .params .«nms_radius») (place x y)))
     (saddleIn c image x y)
+
+-- what is told of a place: where its window does not lie in the map, that it is not above the floor
+abbrev pub judgedIn : Scan → List Float → List ℕ → ℕ → ℕ → Verdict
+judgedIn c resp image x y = cond (windowFits c (length resp) x y) (firstFailingIn c resp image x y) NotAbove

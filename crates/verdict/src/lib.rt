@@ -9,9 +9,8 @@ use saddle::SaddleTest;
 use saddle::accepts;
 use sizes::square_fits;
 ghost use mathlib.Core.Path.{_≡_};
-ghost use mathlib.Core.Bool.{cond};
 ghost use lib.ListN.{length};
-ghost use Rattle.verdict.specs.Verdict.{bySaddle, isKept, windowFits, firstFailingIn};
+ghost use Rattle.verdict.specs.Verdict.{bySaddle, isKept, firstFailingIn, judgedIn};
 ghost use Rattle.verdict.specs.Room.{Room};
 
 pub enum Verdict {
@@ -76,7 +75,7 @@ fn by_rules(resp: &[f32], image: &[u8], scan: Scan, x: usize, y: usize) -> Verdi
 
 // The verdict on the candidate at (x, y). Where its window does not lie in the map nothing is known of it: it is not above the floor.
 pub fn judge_at(resp: &[f32], image: &[u8], scan: Scan, x: usize, y: usize) -> Verdict
-    ensures { λ v. ⌜ v ≡ cond (windowFits scan (length (now (resp .entry))) x y) (firstFailingIn scan (now (resp .entry)) (now (image .entry)) x y) Verdict.NotAbove ⌝ }
+    ensures { λ v. ⌜ v ≡ judgedIn scan (now (resp .entry)) (now (image .entry)) x y ⌝ }
 {
     let params = scan.params;
     if square_fits(params.nms_radius as usize, resp.len(), scan.w, scan.h, x, y) {

@@ -26,7 +26,8 @@ one-more : (c : tie.Then1) → c .before .positive-in-window .result ≡ answer 
 one-more c =
     let n = c .before in
     let o = start n in
-    positives-more _ (o .args .r) (o .args .x) (o .args .y) (o .pre .0 .left) (o .pre .0 .above) (n .positive-in-window .ensures) (rw (o .pre .1) at (c .if1 .taken))
+    positives-more _ (o .args .r) (o .args .x) (o .args .y) (o .pre .0 .left) (o .pre .0 .above)
+    (n .positive-in-window .ensures) (rw (o .pre .1) at (c .if1 .taken))
 
 sub-result : tie.Need-sub-result
 sub-result c = omega (arith, one-more c)
@@ -38,7 +39,8 @@ returns-2 : tie.Need-returns-2
 returns-2 c =
     let n = c .before in
     let o = start n in
-    positives-same _ (o .args .r) (o .args .x) (o .args .y) (o .pre .0 .left) (o .pre .0 .above) (n .positive-in-window .ensures) (rw (o .pre .1) at (c .if1 .left))
+    positives-same _ (o .args .r) (o .args .x) (o .args .y) (o .pre .0 .left) (o .pre .0 .above)
+    (n .positive-in-window .ensures) (rw (o .pre .1) at (c .if1 .left))
 
 pub count-positive-neighbors-spec : {M : Type 1} → statement M
 count-positive-neighbors-spec =
