@@ -6,7 +6,7 @@ use mathlib.Core.List.{List, [], _∷_, _++_}
 use Prim.Native.Nat.{ℕ, zero, suc, _+_, _-_, _*_, _^_, _≤_, _<_, max}
 use native.Mathlib.Nat.{mul-pos}
 use native.Mathlib.Omega.{arith}
-use borrow.Author.Tests.{leb-true, leb-false, le-ltb, lt-ltb, eqb-true}
+use borrow.Author.Tests.{leb-true, leb-false, le-ltb, eqb-true}
 use lib.Dec.{T, ltb, leb, eqb}
 use lib.ListN.{length, getD}
 use lib.IntN.{pos}

@@ -6,7 +6,7 @@ use Prim.Native.Nat.{ℕ, _*_, _^_, _≤_}
 use native.Mathlib.Nat.{zero-mul}
 use native.Mathlib.Omega.{arith}
 use borrow.Author.Tests.{eqb-true}
-use lib.Dec.{T, ltb, eqb, lit<, lit≤, lt→ltb, ltb→lt}
+use lib.Dec.{T, ltb, eqb, lit≤, lt→ltb, ltb→lt}
 use lib.IntN.{ℤ}
 use lib.Ieee.{Float, nan, inf, fin, up, down, binary32, fits, ofBits, isNan, sub, mul, div, lt, le}
 use lib.Ieee.Fits.{and-l, and-r, down-pos}
