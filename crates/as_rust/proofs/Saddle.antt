@@ -25,7 +25,7 @@ use Rattle.saddle.specs.Saddle.{normAdded, normsOf, saddleOf, added, sumsOf, ma
 use Rattle.saddle.specs.declared.Saddle.the-variants.{Yes, Flat, Curved}
 use Rattle.verdict.specs.Verdict.{isKept, bySaddle}
 use Rattle.saddle.proofs.Spread.{nearestRoot, spreadSquared, trace}
-use Rattle.saddle_root.proofs.Rooted.{never-outside, by-root}
+use Rattle.saddle_facts.proofs.Rooted.{never-outside, by-root}
 use Rattle.as_rust.specs.Machine.{Machine, Sound, _⊕_, _⊖_, _⊗_, _⊘_, lit-0, lit-minus-0, lit-1, lit-0·2, abs}
 use Rattle.as_rust.specs.Machine.{ltℤ, maxℤ, i64, as-isize, as-usize, as-f32, as-f32-signed, wrapping-add-signed, byte-at}
 use Rattle.as_rust.specs.Detect.{inclusive, offsets, disk as disk-of, new, accepts}

@@ -83,21 +83,10 @@ module _ (file : List ℕ) {m : NumberedMode} (is : m ≡ modeNumbered (byteAt f
 
 -- ---- the header, of what its readers have read
 
-pub header-is : (file : List ℕ) (fit : PeakFitMode) {ray up blur nms least bits w h : ℕ} {t : Float}
-    → ray ≡ byteAt file 9 → up ≡ byteAt file 10 → blur ≡ byteAt file 11 → nms ≡ byteAt file 13 → least ≡ halfAt file 14
-    → bits ≡ wordAt file 16 → t ≡ ofBits binary32 bits → w ≡ halfAt file 5 → h ≡ halfAt file 7
-    → record {
-      width = w;
-      height = h;
-      params = record {
-        «ray_radius» = ray;
-        «image_upsample» = up;
-        «response_blur_radius» = blur;
-        «peak_fit» = fit;
-        «nms_radius» = nms;
-        «min_cluster_size» = least;
-        «threshold_rel» = t;
-      };
-    } ≡ headerOf file fit
+pub header-is : (file : List ℕ) (fit : PeakFitMode) (x : Header) {bits : ℕ} → x .params .«peak_fit» ≡ fit → x .params .«ray_radius» ≡ byteAt file 9
+    → x .params .«image_upsample» ≡ byteAt file 10 → x .params .«response_blur_radius» ≡ byteAt file 11
+    → x .params .«nms_radius» ≡ byteAt file 13 → x .params .«min_cluster_size» ≡ halfAt file 14
+    → bits ≡ wordAt file 16 → x .params .«threshold_rel» ≡ ofBits binary32 bits
+    → x .width ≡ halfAt file 5 → x .height ≡ halfAt file 7 → x ≡ headerOf file fit
 unfolding headerOf
-header-is file fit a b c d e f g h i = rw (a, b, c, d, e, g, f, h, i)
+header-is file fit x m a b c d e f g h i = rw (← m, ← a, ← b, ← c, ← d, ← e, ← f, ← g, ← h, ← i)

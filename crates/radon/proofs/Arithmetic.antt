@@ -7,7 +7,7 @@ use Rattle.params.specs.declared.settings.PeakFitMode.{PeakFitMode}
 use Rattle.saddle.specs.Saddle.{saddleOf, saddleAt, sumsOf, byCurvatures}
 use Rattle.peak_fit.specs.PeakFit.{fitOf}
 use Rattle.saddle.proofs.Spread.{nearestRoot, spreadSquared, trace}
-use Rattle.saddle_root.proofs.Rooted.{by-root}
+use Rattle.saddle_facts.proofs.Rooted.{by-root}
 use Rattle.peak_fit.proofs.Offsets.{Central, fit-central}
 
 pub saddle-has-root : (k : ℕ) (f : ℕ → ℕ → ℕ) (x y : ℕ) → 1 ≤ k → k ≤ 7 → ((i j : ℕ) → f i j ≤ 4095)

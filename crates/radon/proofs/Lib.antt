@@ -6,4 +6,3 @@ pub mod TableRun
 pub mod Arithmetic
 pub mod Left
 pub mod Cases
-pub mod SaddleNumbers

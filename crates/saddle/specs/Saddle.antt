@@ -155,7 +155,7 @@ byCurvatures k tr spread =
 unfoldable pub squares : Float → Float → Float
 squares q b = add binary32 (mul binary32 (mul binary32 f16 q) q) (mul binary32 (mul binary32 f4 b) b)
 
--- there is always a root where pixels are at most 4,095: crates/saddle_root
+-- there is always a root where pixels are at most 4,095: crates/saddle_facts
 abbrev pub byRoot : ℕ → Float → Root → Saddle
 byRoot k tr (Value spread) = byCurvatures k tr spread
 byRoot k tr Outside = Flat

@@ -1,7 +1,5 @@
 -- `falling_row`: what comes back from `begin` and `carry` is a row of the table. Assumes nothing.
-use Prim.Native.Nat.{ℕ, _<_}
 use native.Mathlib.Omega.{arith}
-use lib.ListN.{getD}
 use borrow.Author.Needs.{needs}
 use Rattle.cumsums.proofs.Running.{Going, going-of, going-most, fall-carries, fall-row}
 use Rattle.cumsums.proofs.falling_row.Statement.{statement}
@@ -17,9 +15,6 @@ known c = c .before .before .before
 
 abbrev start : tie.After-going → tie.Start
 start c = known c .before
-
-bytes : (c : tie.After-going) (k : ℕ) → getD (start c .args .img .now) k 0 < 256
-bytes c k = omega (arith, known c .shared-slice-known .given k)
 
 -- how many columns go on
 goes : (c : tie.After-going) → Going (start c .args .w) (start c .args .y) (c .going .result)
@@ -53,7 +48,8 @@ carry-requires c κs =
     let b = begun c in
     let g = b .before .before in
     let s = start g in
-    fall-carries (s .args .img .now) (s .args .w) (s .args .y) (s .args .out .now) (goes g) (s .pre) (b .begin .ensures) (bytes g)
+    fall-carries (s .args .img .now) (s .args .w) (s .args .y) (s .args .out .now) (goes g) (s .pre) (b .begin .ensures)
+    (λ k. omega (arith, known g .shared-slice-known .given k))
 
 same-length : tie.Need-same-length
 same-length c = search needs

@@ -1,7 +1,5 @@
 -- `rising_row`: what comes back from `carry` and `begin` is a row of the table. Assumes nothing.
-use Prim.Native.Nat.{ℕ, _<_}
 use native.Mathlib.Omega.{arith}
-use lib.ListN.{getD}
 use borrow.Author.Needs.{needs}
 use Rattle.cumsums.proofs.Running.{Going, going-of, going-most, rise-carries, rise-row}
 use Rattle.cumsums.proofs.rising_row.Statement.{statement}
@@ -17,9 +15,6 @@ known c = c .before .before .before
 
 abbrev start : tie.After-going → tie.Start
 start c = known c .before
-
-bytes : (c : tie.After-going) (k : ℕ) → getD (start c .args .img .now) k 0 < 256
-bytes c k = omega (arith, known c .shared-slice-known .given k)
 
 -- how many columns go on
 goes : (c : tie.After-going) → Going (start c .args .w) (start c .args .y) (c .going .result)
@@ -41,7 +36,8 @@ carry-requires : tie.Need-carry-requires
 carry-requires c κs =
     let g = c .before in
     let s = start g in
-    rise-carries (s .args .img .now) (s .args .w) (s .args .y) (s .args .out .now) (goes g) (s .pre) (g .before .less .ensures) (bytes g)
+    rise-carries (s .args .img .now) (s .args .w) (s .args .y) (s .args .out .now) (goes g) (s .pre) (g .before .less .ensures)
+    (λ k. omega (arith, known g .shared-slice-known .given k))
 
 add-begin : tie.Need-add-begin
 add-begin c = search needs

@@ -23,17 +23,17 @@ start l = l .before .before .before
 loop-holds : tie.Need-loop-holds Inv-loop μ-loop
 loop-holds c = rows-none _ _ _ _
 
-along-row-requires : tie.Need-along-row-requires Inv-loop μ-loop
-along-row-requires c κs =
-    let t = c .before in
-    let p = start (t .before) .pre in
-    above-of along _ _ _ _ (t .before .loop .inv) (t .loop-test .taken) (p .0) (p .1) (p .2) (p .3)
-
 add-y : tie.Need-add-y Inv-loop μ-loop
 add-y c = omega arith
 
 loop-less : tie.Need-loop-less Inv-loop μ-loop
 loop-less c = omega arith
+
+along-row-requires : tie.Need-along-row-requires Inv-loop μ-loop
+along-row-requires c κs =
+    let t = c .before in
+    let p = start (t .before) .pre in
+    above-of along _ _ _ _ (t .before .loop .inv) (t .loop-test .taken) (p .0) (p .1) (p .2) (p .3)
 
 loop-again : tie.Need-loop-again Inv-loop μ-loop
 loop-again c =

@@ -1,4 +1,5 @@
 -- `frame::header_of` meets its contract: each field is what its reader ensures. Assumes nothing.
+use mathlib.Core.Path.{refl}
 use borrow.Author.Needs.{needs}
 use Rattle.frame.proofs.Order.{header-is}
 use Rattle.frame.proofs.header_of.Statement.{statement}
@@ -47,7 +48,7 @@ returns c =
     let blur = nms .before in
     let up = blur .before in
     let ray = up .before in
-    header-is _ _ (ray .byte .ensures .0) (up .byte2 .ensures .0) (blur .byte3 .ensures .0) (nms .byte4 .ensures .0)
+    header-is _ _ _ refl (ray .byte .ensures .0) (up .byte2 .ensures .0) (blur .byte3 .ensures .0) (nms .byte4 .ensures .0)
     (least .half .ensures .0) (bits .word .ensures) (t .float .ensures) (w .half2 .ensures .0) (c .half3 .ensures .0)
 
 pub header-of-spec : {M : Type 1} → statement M

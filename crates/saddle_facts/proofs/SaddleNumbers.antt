@@ -1,5 +1,5 @@
--- What the saddle test fixes for each ray radius, worked out from its definition: mean
--- square distance and three inverse norms, as patterns. Assumes nothing.
+-- What the saddle test fixes for each ray radius, worked out from its definition: mean square distance and three inverse norms, as patterns.
+-- Assumes nothing.
 use mathlib.Core.Path.{_≡_, refl}
 use mathlib.Core.List.{List, [], _∷_}
 use Prim.Native.Nat.{ℕ}
@@ -10,9 +10,8 @@ use Rattle.saddle.specs.Saddle.{disk, saddleOf}
 
 unfoldable pub patterns : ℕ → List ℕ
 patterns k =
-    let t =
-    saddleOf k in toBits binary32 (t .«mean_r2») ∷ toBits binary32 (t .«inv_u») ∷ toBits binary32 (t .«inv_v») ∷ toBits binary32
-    (t .«inv_xy») ∷ []
+    let t = saddleOf k in
+    toBits binary32 (t .«mean_r2») ∷ toBits binary32 (t .«inv_u») ∷ toBits binary32 (t .«inv_v») ∷ toBits binary32 (t .«inv_xy») ∷ []
 
 pub saddle-numbers : (patterns 1 ≡ 0x3faa_aaab ∷ 0x3e80_0000 ∷ 0x3e80_0000 ∷ 0x3e80_0000 ∷ [])
     × (patterns 2 ≡ 0x4009_d89e ∷ 0x3d2c_e214 ∷ 0x3c70_f0f1 ∷ 0x3e80_0000 ∷ [])

@@ -1,2 +1,0 @@
--- The saddle test's root.
-pub mod Rooted

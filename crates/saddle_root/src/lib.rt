@@ -1,1 +1,0 @@
-// That the saddle test never asks for a root that there is not. There is no code here.
