@@ -226,12 +226,12 @@ module _ (img : List ℕ) (w y : ℕ) where
 module _ (d : Way) (img : List ℕ) (w h : ℕ) (xs : List ℕ) {ys : List ℕ} {y : ℕ}
     (r : Rows w h (tableAt d (pixel img w) w) xs ys y) (b : y < h) where
   -- what row y is filled from
-  pub above-of : w ≤ 8192 → h ≤ 8192 → w * h ≤ length img → w * h ≤ length xs → Above d img w y ys
-  above-of u v m n = record {
-    wide = u;
-    high = omega arith;
-    image = omega (arith, row-in w b);
-    room = omega (arith, row-in w b, r .long);
+  pub above-of : (w ≤ 8192) × (h ≤ 8192) × (w * h ≤ length img) × (w * h ≤ length xs) → Above d img w y ys
+  above-of fits = record {
+    wide = fits .0;
+    high = omega (arith, fits .1);
+    image = omega (arith, row-in w b, fits .2);
+    room = omega (arith, row-in w b, r .long, fits .3);
     done = rw (mul-comm w y) (rows-on w h _ xs r .fill);
   }
 

@@ -10,11 +10,8 @@ use Rattle.cumsums.proofs.falling_row.Tie as tie
 abbrev begun : tie.After-carry-arg → tie.After-begin
 begun c = c .before .before .before
 
-abbrev known : tie.After-going → tie.After-shared-slice-known
-known c = c .before .before .before
-
 abbrev start : tie.After-going → tie.Start
-start c = known c .before
+start c = c .before .before .before .before
 
 -- how many columns go on
 goes : (c : tie.After-going) → Going (start c .args .w) (start c .args .y) (c .going .result)
@@ -49,7 +46,7 @@ carry-requires c κs =
     let g = b .before .before in
     let s = start g in
     fall-carries (s .args .img .now) (s .args .w) (s .args .y) (s .args .out .now) (goes g) (s .pre) (b .begin .ensures)
-    (λ k. omega (arith, known g .shared-slice-known .given k))
+    (λ k. omega (arith, g .before .before .before .shared-slice-known .given k))
 
 same-length : tie.Need-same-length
 same-length c = search needs

@@ -7,18 +7,15 @@ use Rattle.cumsums.proofs.rising_row.Tie as tie
 
 -- ---- the way back from what the second run is lent to the first, and to the start
 
-abbrev carried : tie.After-begin-arg → tie.After-carry
-carried c = c .before .before .before
-
-abbrev known : tie.After-going → tie.After-shared-slice-known
-known c = c .before .before .before
-
 abbrev start : tie.After-going → tie.Start
-start c = known c .before
+start c = c .before .before .before .before
 
 -- how many columns go on
 goes : (c : tie.After-going) → Going (start c .args .w) (start c .args .y) (c .going .result)
 goes c = going-of (c .before .less .ensures) (c .going .ensures)
+
+abbrev carried : tie.After-begin-arg → tie.After-carry
+carried c = c .before .before .before
 
 mul-row : tie.Need-mul-row
 mul-row c = search needs
@@ -37,7 +34,7 @@ carry-requires c κs =
     let g = c .before in
     let s = start g in
     rise-carries (s .args .img .now) (s .args .w) (s .args .y) (s .args .out .now) (goes g) (s .pre) (g .before .less .ensures)
-    (λ k. omega (arith, known g .shared-slice-known .given k))
+    (λ k. omega (arith, g .before .before .before .shared-slice-known .given k))
 
 add-begin : tie.Need-add-begin
 add-begin c = search needs

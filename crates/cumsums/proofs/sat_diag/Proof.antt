@@ -15,9 +15,6 @@ Inv-loop img w h d out₀ y₀ out y = Rows w h (tableAt (wayOf d) (pixel img w)
 abbrev μ-loop : tie.MeasureT-loop
 μ-loop img w h d out₀ y₀ out y = h - y
 
-abbrev turn : tie.After-slice-known2 Inv-loop μ-loop → tie.In-loop Inv-loop μ-loop
-turn c = c .before .before .before .before
-
 abbrev start : tie.At-loop Inv-loop μ-loop → tie.Start Inv-loop μ-loop
 start l = l .before .before .before
 
@@ -26,9 +23,7 @@ loop-holds c = rows-none _ _ _ _
 
 diagonal-row-requires : tie.Need-diagonal-row-requires Inv-loop μ-loop
 diagonal-row-requires c κs =
-    let t = c .before in
-    let p = start (t .before) .pre in
-    above-of _ _ _ _ _ (t .before .loop .inv) (t .loop-test .taken) (p .0) (p .1) (p .2) (p .3)
+    above-of _ _ _ _ _ (c .before .before .loop .inv) (c .before .loop-test .taken) (start (c .before .before) .pre)
 
 add-y : tie.Need-add-y Inv-loop μ-loop
 add-y c = omega arith
@@ -38,7 +33,7 @@ loop-less c = omega arith
 
 loop-again : tie.Need-loop-again Inv-loop μ-loop
 loop-again c =
-    let t = turn c in
+    let t = c .before .before .before .before in
     rows-next (wayOf (start (t .before) .args .d)) (start (t .before) .args .img .now) _ _ _ (t .before .loop .inv)
     (t .loop-test .taken) (c .before .before .diagonal-row .ensures)
 

@@ -14,9 +14,6 @@ Inv-loop img w h out₀ y₀ out y = Rows w h (tableAt along (pixel img w) w) ou
 abbrev μ-loop : tie.MeasureT-loop
 μ-loop img w h out₀ y₀ out y = h - y
 
-abbrev turn : tie.After-slice-known2 Inv-loop μ-loop → tie.In-loop Inv-loop μ-loop
-turn c = c .before .before .before .before
-
 abbrev start : tie.At-loop Inv-loop μ-loop → tie.Start Inv-loop μ-loop
 start l = l .before .before .before
 
@@ -31,13 +28,11 @@ loop-less c = omega arith
 
 along-row-requires : tie.Need-along-row-requires Inv-loop μ-loop
 along-row-requires c κs =
-    let t = c .before in
-    let p = start (t .before) .pre in
-    above-of along _ _ _ _ (t .before .loop .inv) (t .loop-test .taken) (p .0) (p .1) (p .2) (p .3)
+    above-of along _ _ _ _ (c .before .before .loop .inv) (c .before .loop-test .taken) (start (c .before .before) .pre)
 
 loop-again : tie.Need-loop-again Inv-loop μ-loop
 loop-again c =
-    let t = turn c in
+    let t = c .before .before .before .before in
     rows-next along (start (t .before) .args .img .now) _ _ _ (t .before .loop .inv) (t .loop-test .taken)
     (c .before .before .along-row .ensures)
 
