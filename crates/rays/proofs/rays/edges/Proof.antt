@@ -20,9 +20,7 @@ loop-holds : tie.Need-loop-holds Inv-loop μ-loop
 loop-holds c = line-none _ _ _
 
 add-response-or-zero : tie.Need-add-response-or-zero Inv-loop μ-loop
-add-response-or-zero c =
-    let u = start c .pre .1 .tables .wide in
-    omega arith
+add-response-or-zero c = omega (arith, start c .pre .1 .tables .wide)
 
 response-or-zero-requires : tie.Need-response-or-zero-requires Inv-loop μ-loop
 response-or-zero-requires c κs = (omega arith, start c .pre .1)

@@ -22,9 +22,8 @@ loop-holds c = line-none _ _ _
 add-deep-response : tie.Need-add-deep-response Inv-loop μ-loop
 add-deep-response c =
     let p = start c .pre in
-    let u = p .1 .tables .wide in
     let e = p .0 (start c .args .a + c .before .loop .i) (omega arith) (omega arith) in
-    omega arith
+    omega (arith, p .1 .tables .wide)
 
 deep-response-requires : tie.Need-deep-response-requires Inv-loop μ-loop
 deep-response-requires c κs =
