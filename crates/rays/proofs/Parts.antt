@@ -1,22 +1,23 @@
--- A row that is filled a run of columns at a time. Assumes nothing.
+-- A row that is filled a run of columns at a time, each run lent as a part. Assumes nothing.
 use mathlib.Core.Path.{_≡_, refl, ap, _∙_}
-use mathlib.Core.List.{List}
+use mathlib.Core.List.{List, _++_}
 use Prim.Native.Nat.{ℕ, _+_, _-_, _≤_}
 use native.Mathlib.Omega.{arith}
+use lib.ListN.{length, take, drop, length-take, length-drop}
 use Rattle.grid.specs.Fill.{filled}
-use Rattle.grid.proofs.Fill.{filled-zero}
-use Rattle.grid.specs.Span.{span}
-use Rattle.grid.proofs.Span.{span-filled}
+use Rattle.grid.proofs.Fill.{length-fill}
+use Rattle.grid.proofs.Part.{fill-part}
 
-module _ {ℓ} {A : Type ℓ} (f : ℕ → A) (xs : List A) where
+module _ {ℓ} {A : Type ℓ} where
+  -- a run from a to before e is as long as that
+  run-long : (a e : ℕ) (xs : List A) → e ≤ length xs → length (take (e - a) (drop a xs)) ≡ e - a
+  run-long a e xs b = simp (length-take, length-drop) (omega arith)
+
   -- the entries below a are done, and those from a and below e come next
-  run-more : {ys zs : List A} (a e : ℕ) → ys ≡ filled a f xs → a ≤ e → zs ≡ span a (e - a) f ys → zs ≡ filled e f xs
-  run-more a e y l z =
+  pub run-more : (f : ℕ → A) (xs : List A) {ys zs : List A} (a e : ℕ) → ys ≡ filled a f xs → a ≤ e → e ≤ length xs
+      → zs ≡ filled (length (take (e - a) (drop a ys))) (λ j. f (a + j)) (take (e - a) (drop a ys))
+      → take a ys ++ (zs ++ drop (e - a) (drop a ys)) ≡ filled e f xs
+  run-more f xs {ys} a e y l m z =
       let n : a + (e - a) ≡ e = omega arith in
-      z ∙ (λ i. span a (e - a) f (y i)) ∙ span-filled a (e - a) f f xs (λ k b c. refl) ∙ ap (λ (k : ℕ). filled k f xs) n
-
-  -- the three runs of a row
-  pub runs : {ys zs us : List A} {a e w : ℕ} → a ≤ e → e ≤ w → ys ≡ span 0 (a - 0) f xs → zs ≡ span a (e - a) f ys
-      → us ≡ span e (w - e) f zs → us ≡ filled w f xs
-  runs {a = a} {e = e} {w = w} l m p q s =
-      run-more e w (run-more a e (run-more 0 a (filled-zero f xs) (omega arith) p) l q) m s
+      let k = run-long a e ys (omega (arith, length-fill _ _ _ y)) in
+      rw (z, k) (fill-part a (e - a) f _ xs y (λ j b. refl)) ∙ ap (λ (k : ℕ). filled k f xs) n

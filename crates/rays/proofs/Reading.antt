@@ -27,15 +27,16 @@ pub record Cast (f : ℕ → ℕ → ℕ) (r x y a b c d : ℕ) : Type 0 where
   pub on-falling : c ≡ ray fall f r x y
   pub on-rising : d ≡ ray rise f r x y
 
+-- what four reads gave, by what they promise
 module _ {w h r x y : ℕ} {row col falling rising : List ℕ} (t : Held w h row col falling rising) (m : Inside w h r x y)
-    {a b c d : ℕ} (k : Cast (shown row w) r x y a b c d) where
+    {p q s u a b c d : ℕ} (k : Cast (shown row w) r x y p q s u) (i : a ≡ p) (j : b ≡ q) (v : c ≡ s) (z : d ≡ u) where
   -- none is over 15 pixels of 12 bits
   pub cast-small : r ≤ 7 → (a ≤ 61425) × (b ≤ 61425) × (c ≤ 61425) × (d ≤ 61425)
   cast-small l = (
-    omega (arith, k .on-row, most along),
-    omega (arith, k .on-col, most down),
-    omega (arith, k .on-falling, most fall),
-    omega (arith, k .on-rising, most rise),
+    omega (arith, i, k .on-row, most along),
+    omega (arith, j, k .on-col, most down),
+    omega (arith, v, k .on-falling, most fall),
+    omega (arith, z, k .on-rising, most rise),
   )
     where
       most : (d : Way) → ray d (shown row w) r x y ≤ 61425
@@ -44,8 +45,8 @@ module _ {w h r x y : ℕ} {row col falling rising : List ℕ} (t : Held w h row
           let e = ray-ext d (shown row w) f w h r x y m (λ x y a b. omega (arith, t .most x y a b)) in
           omega (arith, e, ray-most d f 4095 r x y (λ x y. omega arith))
 
-  pub cast-response : {v : Float} → v ≡ square (spread a b c d) → v ≡ responseAt (shown row w) w h r x y
-  cast-response e = e ∙ response-in (shown row w) w h r x y m (k .on-row) (k .on-col) (k .on-falling) (k .on-rising)
+  pub cast-response : {o : Float} → o ≡ square (spread a b c d) → o ≡ responseAt (shown row w) w h r x y
+  cast-response e = e ∙ response-in (shown row w) w h r x y m (i ∙ k .on-row) (j ∙ k .on-col) (v ∙ k .on-falling) (z ∙ k .on-rising)
 
 -- ---- where an entry may be past the edge
 
@@ -65,10 +66,6 @@ entry-at t w h x y l = record { is = λ d f s r. at d f s r (decLt 0 x) (decLt 0
 pub record EdgeRay (d : Way) (f : ℕ → ℕ → ℕ) (t : List ℕ) (w r x y x0 y0 x1 y1 : ℕ) : Type 0 where
   pub reads : Between t w x0 y0 x1 y1
   pub is : entryAt t w x1 y1 - entryAt t w x0 y0 ≡ ray d f r x y
-
-pub edge-read : {d : Way} {f : ℕ → ℕ → ℕ} {t : List ℕ} {w r x y x0 y0 x1 y1 v : ℕ} → EdgeRay d f t w r x y x0 y0 x1 y1
-    → v ≡ entryAt t w x1 y1 - entryAt t w x0 y0 → v ≡ ray d f r x y
-edge-read e q = q ∙ e .is
 
 edge-ray : (d : Way) {f : ℕ → ℕ → ℕ} {w h r x y x0 y0 x1 y1 : ℕ} {t : List ℕ} → Holds d f w h t → Inside w h r x y → w ≤ 8192 → h ≤ 8192
     → w * h ≤ length t
@@ -109,33 +106,19 @@ edge-rays t m = record {
   on-rising = edge-ray rise (t .rises) m (t .wide) (t .high) (t .rising-long) (omega arith) (omega arith) (omega arith) (omega arith);
 }
 
--- the numbers on the way to them
-pub record EdgePlaces (r x y : ℕ) : Type 0 where
-  pub least : (r ≤ x) × (r ≤ y)
-  pub here : Fits w64 (x + 1) × Fits w64 (y + 1)
-  pub end : Fits w64 (x + 1 + r) × Fits w64 (y + 1 + r)
-  pub rises : Fits w64 (x + 1 + r + 1) × Fits w64 (x - r + 1)
-
-small : {n : ℕ} → n ≤ 67108864 → Fits w64 n
-small l = record { fits = omega arith }
-
-pub edge-places : {w h r x y : ℕ} → w ≤ 8192 → h ≤ 8192 → Inside w h r x y → EdgePlaces r x y
-edge-places u v m = record {
-  least = (m .left, m .above);
-  here = (small (omega arith), small (omega arith));
-  end = (small (omega arith), small (omega arith));
-  rises = (small (omega arith), small (omega arith));
-}
+-- and what they differ by
+pub edge-cast : {w r x y : ℕ} {row col falling rising : List ℕ} → EdgeRays w r x y row col falling rising
+    → Cast (shown row w) r x y (entryAt row w (x + 1 + r) (y + 1) - entryAt row w (x - r) (y + 1))
+    (entryAt col w (x + 1) (y + 1 + r) - entryAt col w (x + 1) (y - r))
+    (entryAt falling w (x + 1 + r) (y + 1 + r) - entryAt falling w (x - r) (y - r))
+    (entryAt rising w (x - r + 1) (y + 1 + r) - entryAt rising w (x + 1 + r + 1) (y - r))
+edge-cast e = record { on-row = e .on-row .is; on-col = e .on-col .is; on-falling = e .on-falling .is; on-rising = e .on-rising .is }
 
 -- ---- where all eight are in the image
 
 pub record DeepRay (d : Way) (f : ℕ → ℕ → ℕ) (t : List ℕ) (r x y i j : ℕ) : Type 0 where
   pub reads : (i < length t) × (j < length t) × (getD t j 0 ≤ getD t i 0)
   pub is : getD t i 0 - getD t j 0 ≡ ray d f r x y
-
-pub deep-read : {d : Way} {f : ℕ → ℕ → ℕ} {t : List ℕ} {r x y i j v : ℕ} → DeepRay d f t r x y i j
-    → v ≡ getD t i 0 - getD t j 0 → v ≡ ray d f r x y
-deep-read e q = q ∙ e .is
 
 deep-ray : (d : Way) {f : ℕ → ℕ → ℕ} {w h r x y i j : ℕ} {t : List ℕ} → Holds d f w h t → Deep w h r x y → w * h ≤ length t
     → i ≡ endy d y r * w + endx d x r → j ≡ prey d y r * w + prex d x r → (i < w * h) × (j < w * h) → DeepRay d f t r x y i j
@@ -148,6 +131,17 @@ pub record DeepRays (w r x y : ℕ) (row col falling rising : List ℕ) : Type 0
   pub on-col : DeepRay down (shown row w) col r x y ((y + r) * w + x) ((y - (r + 1)) * w + x)
   pub on-falling : DeepRay fall (shown row w) falling r x y ((y + r) * w + x + r) ((y - (r + 1)) * w + x - (r + 1))
   pub on-rising : DeepRay rise (shown row w) rising r x y ((y + r) * w + x - r) ((y - (r + 1)) * w + x + (r + 1))
+
+-- and what they differ by
+pub deep-cast : {w r x y : ℕ} {row col falling rising : List ℕ} → DeepRays w r x y row col falling rising
+    → Cast (shown row w) r x y (getD row (y * w + x + r) 0 - getD row (y * w + x - (r + 1)) 0)
+    (getD col ((y + r) * w + x) 0 - getD col ((y - (r + 1)) * w + x) 0)
+    (getD falling ((y + r) * w + x + r) 0 - getD falling ((y - (r + 1)) * w + x - (r + 1)) 0)
+    (getD rising ((y + r) * w + x - r) 0 - getD rising ((y - (r + 1)) * w + x + (r + 1)) 0)
+deep-cast e = record { on-row = e .on-row .is; on-col = e .on-col .is; on-falling = e .on-falling .is; on-rising = e .on-rising .is }
+
+small : {n : ℕ} → n ≤ 67108864 → Fits w64 n
+small l = record { fits = omega arith }
 
 -- the numbers on the way to them
 pub record DeepPlaces (w r x y : ℕ) : Type 0 where

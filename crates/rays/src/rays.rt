@@ -5,7 +5,6 @@ ghost use Prim.Native.Nat.{_+_, _-_, _*_, _<_, _≤_, min, max};
 ghost use lib.ListN.{length, getD};
 ghost use Rattle.grid.specs.Fill.{filled};
 ghost use Rattle.grid.specs.Plane.{plane};
-ghost use Rattle.grid.specs.Span.{span};
 ghost use Rattle.grid.specs.Ways.{Inside, Deep};
 ghost use Rattle.rays.specs.Response.{spread, square, within, responseAt};
 ghost use Rattle.rays.specs.Shown.{shown, Held, entryAt, Between, readAt, Short, Readable, AllDeep};
@@ -119,22 +118,14 @@ fn response_or_zero(row: &[u32], col: &[u32], fall: &[u32], rise: &[u32], at: Ro
     0.0
 }
 
-// The columns a to e - 1 of a row, by the tests of each pixel.
-fn edges(
-    row: &[u32],
-    col: &[u32],
-    fall: &[u32],
-    rise: &[u32],
-    at: Row,
-    a: usize,
-    e: usize,
-    out: &mut [f32],
-)
-    requires { ⌜ (a ≤ e) × (e ≤ at .w) × (e ≤ length (now out)) × Readable at (now row) (now col) (now fall) (now rise) ⌝ }
-    ensures { λ _. ⌜ now (out .exit) ≡ span a (e - a) (readAt (now (row .entry)) at) (now (out .entry)) ⌝ }
+// A run of a row, from column a on, by the tests of each pixel.
+fn edges(row: &[u32], col: &[u32], fall: &[u32], rise: &[u32], at: Row, a: usize, out: &mut [f32])
+    requires { ⌜ (a + length (now out) ≤ at .w) × Readable at (now row) (now col) (now fall) (now rise) ⌝ }
+    ensures { λ _. ⌜ now (out .exit)
+        ≡ filled (length (now (out .entry))) (λ i. readAt (now (row .entry)) at (a + i)) (now (out .entry)) ⌝ }
 {
-    for x in a..e {
-        out[x] = response_or_zero(row, col, fall, rise, at, x);
+    for i in 0..out.len() {
+        out[i] = response_or_zero(row, col, fall, rise, at, a + i);
     }
 }
 
@@ -165,23 +156,13 @@ fn deep_response(row: &[u32], col: &[u32], fall: &[u32], rise: &[u32], at: Row, 
 }
 
 // The same without a test, where each of the columns is deep in the image.
-fn inner(
-    row: &[u32],
-    col: &[u32],
-    fall: &[u32],
-    rise: &[u32],
-    at: Row,
-    a: usize,
-    e: usize,
-    out: &mut [f32],
-)
-    requires { ⌜
-        (a ≤ e) × (e ≤ length (now out)) × AllDeep at a e × Readable at (now row) (now col) (now fall) (now rise)
-        ⌝ }
-    ensures { λ _. ⌜ now (out .exit) ≡ span a (e - a) (readAt (now (row .entry)) at) (now (out .entry)) ⌝ }
+fn inner(row: &[u32], col: &[u32], fall: &[u32], rise: &[u32], at: Row, a: usize, out: &mut [f32])
+    requires { ⌜ AllDeep at a (a + length (now out)) × Readable at (now row) (now col) (now fall) (now rise) ⌝ }
+    ensures { λ _. ⌜ now (out .exit)
+        ≡ filled (length (now (out .entry))) (λ i. readAt (now (row .entry)) at (a + i)) (now (out .entry)) ⌝ }
 {
-    for x in a..e {
-        out[x] = deep_response(row, col, fall, rise, at, x);
+    for i in 0..out.len() {
+        out[i] = deep_response(row, col, fall, rise, at, a + i);
     }
 }
 
@@ -213,11 +194,12 @@ fn compute_response_row(
     requires { ⌜ (length (now out) ≡ at .w) × Readable at (now row) (now col) (now fall) (now rise) ⌝ }
     ensures { λ _. ⌜ now (out .exit) ≡ filled (at .w) (readAt (now (row .entry)) at) (now (out .entry)) ⌝ }
 {
+    let w = at.w;
     let first = inner_from(at);
-    let last = sizes::larger(first, at.w - first);
-    edges(row, col, fall, rise, at, 0, first, out);
-    inner(row, col, fall, rise, at, first, last, out);
-    edges(row, col, fall, rise, at, last, at.w, out);
+    let last = sizes::larger(first, w - first);
+    edges(row, col, fall, rise, at, 0, &mut out[0..first]);
+    inner(row, col, fall, rise, at, first, &mut out[first..last]);
+    edges(row, col, fall, rise, at, last, &mut out[last..w]);
 }
 
 // The response of the image that the tables are of.

@@ -1,7 +1,6 @@
 -- `deep_response`: the four differences are the four rays. Assumes nothing.
 use Rattle.grid.proofs.Ways.{deep-inside}
-use Rattle.rays.specs.Shown.{shown}
-use Rattle.rays.proofs.Reading.{Cast, cast-small, cast-response, DeepRays, DeepPlaces, deep-read, deep-rays, deep-places}
+use Rattle.rays.proofs.Reading.{DeepRays, DeepPlaces, deep-rays, deep-places, deep-cast, cast-small, cast-response}
 use Rattle.rays.proofs.rays.deep_response.Statement.{statement}
 use Rattle.rays.proofs.rays.deep_response.Tie as tie
 
@@ -22,21 +21,6 @@ rays s = deep-rays (s .pre .1 .tables) (s .pre .0)
 
 places : (s : tie.Start) → DeepPlaces (s .args .at .w) (s .args .at .r) (s .args .x) (s .args .at .y)
 places s = deep-places (s .pre .1 .tables) (s .pre .0)
-
--- what was read
-cast : (c : tie.After-difference4)
-    → let s = start4 c in
-    Cast (shown (s .args .row .now) (s .args .at .w)) (s .args .at .r) (s .args .x) (s .args .at .y)
-    (c .before .before .before .difference .result) (c .before .before .difference2 .result) (c .before .difference3 .result)
-    (c .difference4 .result)
-cast c =
-    let e = rays (start4 c) in
-    record {
-      on-row = deep-read (e .on-row) (c .before .before .before .difference .ensures);
-      on-col = deep-read (e .on-col) (c .before .before .difference2 .ensures);
-      on-falling = deep-read (e .on-falling) (c .before .difference3 .ensures);
-      on-rising = deep-read (e .on-rising) (c .difference4 .ensures);
-    }
 
 add-past : tie.Need-add-past
 add-past c = places (start c) .past
@@ -97,13 +81,21 @@ difference-requires-4 c κs = rays (start2 (c .before)) .on-rising .reads
 
 squared-spread-requires : tie.Need-squared-spread-requires
 squared-spread-requires c κs =
-    let p = start4 c .pre in
-    cast-small (p .1 .tables) (deep-inside (p .0)) (cast c) (p .1 .short)
+    let z = c .before in
+    let s = start4 c in
+    let k = deep-cast (rays s) in
+    let m = deep-inside (s .pre .0) in
+    cast-small (s .pre .1 .tables) m k (z .before .before .difference .ensures) (z .before .difference2 .ensures)
+    (z .difference3 .ensures) (c .difference4 .ensures) (s .pre .1 .short)
 
 returns : tie.Need-returns
 returns c =
-    let p = start4 (c .before) .pre in
-    cast-response (p .1 .tables) (deep-inside (p .0)) (cast (c .before)) (c .squared-spread .ensures)
+    let z = c .before .before in
+    let s = start4 (c .before) in
+    let k = deep-cast (rays s) in
+    let m = deep-inside (s .pre .0) in
+    cast-response (s .pre .1 .tables) m k (z .before .before .difference .ensures) (z .before .difference2 .ensures)
+    (z .difference3 .ensures) (c .before .difference4 .ensures) (c .squared-spread .ensures)
 
 pub deep-response-spec : {M : Type 1} → statement M
 deep-response-spec =
