@@ -37,7 +37,8 @@ use Rattle.verdict.specs.Window.{at, beaten, positives}
 use Rattle.crests.specs.Crests.{over, crest, Sought}
 use Rattle.crests.proofs.Passing.{sought-plain, not-worth}
 use Rattle.detect.specs.Corners.{candidates, floorOf, corners, stride, numbers}
-use Rattle.verdict.specs.Verdict.{firstFailing, isSaddle, isKept, verdict, judgedIn}
+use Rattle.verdict.specs.Verdict.{firstFailing, isSaddle, isKept, verdict}
+use Rattle.verdict.specs.Judged.{judgedIn}
 use Rattle.verdict.specs.Room.{Cross}
 use Rattle.detect.specs.Scan.{scanOf, floorIn, verdictIn, keptIn, numbersIn, fittedAt, borderIn, rowsAbove}
 use Rattle.detect.specs.Scan.{Asked, Judging, Candidate, Finding, NextInRow, Entered, RowFound, Found}

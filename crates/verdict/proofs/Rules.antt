@@ -22,7 +22,8 @@ use Rattle.verdict.specs.declared.Verdict.{Verdict}
 use Rattle.verdict.specs.declared.Verdict.the-variants.{NotAbove, Beaten, TooFew}
 use Rattle.verdict.specs.declared.Scan.{Scan}
 use Rattle.verdict.specs.Window.{beaten, positives}
-use Rattle.verdict.specs.Verdict.{bySaddle, firstFailing, verdict, windowFits, saddleIn, firstFailingIn, judgedIn}
+use Rattle.verdict.specs.Verdict.{bySaddle, firstFailing, verdict}
+use Rattle.verdict.specs.Judged.{windowFits, saddleIn, firstFailingIn, judgedIn}
 use Rattle.verdict.specs.Room.{Room}
 
 -- ---- a window that fits lies in the map

@@ -10,7 +10,8 @@ use saddle::accepts;
 use sizes::square_fits;
 ghost use mathlib.Core.Path.{_≡_};
 ghost use lib.ListN.{length};
-ghost use Rattle.verdict.specs.Verdict.{bySaddle, isKept, firstFailingIn, judgedIn};
+ghost use Rattle.verdict.specs.Verdict.{bySaddle, isKept};
+ghost use Rattle.verdict.specs.Judged.{firstFailingIn, judgedIn};
 ghost use Rattle.verdict.specs.Room.{Room};
 
 pub enum Verdict {
