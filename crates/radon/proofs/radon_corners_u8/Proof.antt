@@ -105,9 +105,10 @@ returns-2 c =
     let z = number-0 m in
     let j = z .before .before in
     let o = start j .args in
-    let list = c .before .before .detect-peaks-from-radon in
+    let map = m .radon-response-u8 .ensures in
+    let list = c .before .before .detect-peaks-from-radon .ensures in
     when-accepted (now (o .img)) (o .w) (o .h) (o .p) (given j) (room-is j) (j .judge-finder-call .ensures)
-    (z .before .number .ensures) (z .if1 .left) (m .radon-response-u8 .ensures .0) (m .radon-response-u8 .ensures .1) (list .ensures .0) (list .ensures .1)
+    (z .before .number .ensures) (z .if1 .left) (map .0) (map .1) (list .0) (list .1)
 
 pub radon-corners-u8-spec : {M : Type 1} → statement M
 radon-corners-u8-spec =
