@@ -3,7 +3,7 @@ ghost use mathlib.Core.Path.{_≡_};
 ghost use Rattle.params.specs.Answers.{numberOf, refused};
 ghost use Rattle.params.specs.Refusals.{orElse};
 
-// What a call answers. The numbers are document 01's.
+// What a call answers. The numbers are document 01's to 14, and document 02's from there on.
 pub enum Answer {
     // 0: accepted, all corners fit
     Complete,
@@ -35,6 +35,16 @@ pub enum Answer {
     StatedLength,
     // 14: a mode above 1
     Mode,
+    // 16: a corner record shorter than its fields, or whose stated length is not its own
+    RecordLength,
+    // 17: a corner record of a version that is not known
+    RecordVersion,
+    // 18: a count that is not that of the record's length, or over 8,388,608 corners
+    CornerCount,
+    // 19: a number of a corner that is not finite
+    NotFinite,
+    // 20: an output too short for what is to be written into it
+    OutputTooShort,
 }
 
 impl Answer {
@@ -58,6 +68,11 @@ impl Answer {
             Answer::Version => 12,
             Answer::StatedLength => 13,
             Answer::Mode => 14,
+            Answer::RecordLength => 16,
+            Answer::RecordVersion => 17,
+            Answer::CornerCount => 18,
+            Answer::NotFinite => 19,
+            Answer::OutputTooShort => 20,
         }
     }
 

@@ -1,0 +1,3 @@
+-- The corner record, as document 02 has it.
+pub mod Record
+pub mod Stages
