@@ -23,14 +23,14 @@ module _ {A : Type 0} where
   length-over (v ∷ vs) [] = refl
   length-over (v ∷ vs) (x ∷ xs) = ap suc (length-over vs xs)
 
-  over-set : (vs xs : List A) (a : A) → set (over vs xs) (length vs) a ≡ over (vs ++ (a ∷ [])) xs
+  pub over-set : (vs xs : List A) (a : A) → set (over vs xs) (length vs) a ≡ over (vs ++ (a ∷ [])) xs
   unfolding over
   over-set [] [] a = refl
   over-set [] (x ∷ xs) a = refl
   over-set (v ∷ vs) [] a = refl
   over-set (v ∷ vs) (x ∷ xs) a = ap (λ (r : List A). v ∷ r) (over-set vs xs a)
 
-  over-sets : (ws vs xs : List A) → sets (over vs xs) (length vs) ws ≡ over (vs ++ ws) xs
+  pub over-sets : (ws vs xs : List A) → sets (over vs xs) (length vs) ws ≡ over (vs ++ ws) xs
   over-sets [] vs xs = rw append-nil
   over-sets (a ∷ ws) vs xs =
       let n : suc (length vs) ≡ length (vs ++ (a ∷ [])) = omega (arith, length-append vs (a ∷ [])) in
