@@ -68,7 +68,6 @@ unfoldable pub bytesOf : List Float → List ℕ
 bytesOf numbers = each (λ x. wordBytes (toBits binary32 x)) numbers
 
 unfoldable pub recordOf : ℕ → ℕ → ℕ → ℕ → List Float → List ℕ
-unfolding bytesOf
 recordOf v k w h list = headOf v k w h (cornersIn k list) ++ bytesOf (wholeOf k list)
 
 -- ---- the writer
@@ -82,12 +81,10 @@ writeRefusal k list room =
     Complete))
 
 unfoldable pub writeOutcome : ℕ → ℕ → ℕ → List Float → ℕ → Outcome
-unfolding writeRefusal
 writeOutcome k w h list room = outcomeWith (writeRefusal k list room) (cornersIn k list) w h
 
 -- the record at the output's beginning; bytes beyond it stay
 unfoldable pub written : ℕ → ℕ → ℕ → ℕ → List Float → List ℕ → List ℕ
-unfolding writeRefusal recordOf
 written v k w h list old = unlessRefused (writeRefusal k list (length old)) (over (recordOf v k w h list) old) old
 
 -- ---- the reader
@@ -106,7 +103,6 @@ numberIn file i = ofBits binary32 (wordAt file (head + 4 * i))
 -- "16 under 13 bytes or stated length wrong, 17 version not 1, 18 count and length disagree or over 8,388,608 corners, 19 a
 -- number not finite, 20 output too short; .. lowest first": room is the list's length
 unfoldable pub readRefusal : ℕ → ℕ → List ℕ → ℕ → Answer
-unfolding numberIn
 readRefusal v k file room =
     cond (ltb (length file) head || not (eqb (statedIn file) (length file - 5))) RecordLength
     (cond (not (eqb (byteAt file 0) v)) RecordVersion
@@ -116,10 +112,8 @@ readRefusal v k file room =
     Complete))))
 
 unfoldable pub readOutcome : ℕ → ℕ → List ℕ → ℕ → Outcome
-unfolding readRefusal
 readOutcome v k file room = outcomeWith (readRefusal v k file room) (countIn file) (halfAt file 5) (halfAt file 7)
 
 -- the numbers at the list's beginning; numbers beyond them stay
 unfoldable pub readBack : ℕ → ℕ → List ℕ → List Float → List Float
-unfolding readRefusal numberIn
 readBack v k file old = unlessRefused (readRefusal v k file (length old)) (filled (k * countIn file) (numberIn file) old) old
