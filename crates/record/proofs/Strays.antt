@@ -5,7 +5,8 @@ use mathlib.Core.List.{List, [], _∷_, _++_}
 use Prim.Native.Nat.{ℕ, suc, _+_, _≤_, _<_}
 use native.Mathlib.Numerals.{add-one}
 use native.Mathlib.Omega.{arith}
-use lib.Ieee.{Float, nan, inf, fin, binary32, ofBits, lt}
+use lib.Dec.{T}
+use lib.Ieee.{Float, nan, inf, fin, binary32, ofBits, nanBits, lt}
 use lib.Ieee.Scale.{finite}
 use lib.ListN.{length, getD, take, drop, length-take}
 use lib.Seq.{take-suc, take-take, getD-take, split-at}
@@ -16,11 +17,15 @@ use Rattle.grid.proofs.Rect.{range-none, range-more, range-at}
 
 -- ---- between the infinities
 
+pub no-nan : T (not (nanBits binary32 0x7f80_0000)) × T (not (nanBits binary32 0xff80_0000))
+unfolding nanBits
+no-nan = (tt, tt)
+
 pub below : (x : Float) → lt x (ofBits binary32 0x7f80_0000) ≡ true → lt (ofBits binary32 0xff80_0000) x ≡ finite x
 unfolding lt ofBits
 below nan e = refl
 below (inf true) e = refl
-below (inf false) e = refl
+below (inf false) e = absurd (let z : _≡_ {A = ℕ} 0 1 = cc in omega arith)
 below (fin s m d) e = refl
 
 pub not-below : (x : Float) → lt x (ofBits binary32 0x7f80_0000) ≡ false → false ≡ finite x
@@ -28,6 +33,10 @@ unfolding lt ofBits
 not-below nan e = refl
 not-below (inf s) e = refl
 not-below (fin s m d) e = absurd (let z : _≡_ {A = ℕ} 0 1 = cc in omega arith)
+
+-- a test, by what was found of it
+pub not-by : {r f b : Bool} → r ≡ f → not r ≡ b → not f ≡ b
+not-by e h = ap not (sym e) ∙ h
 
 -- ---- a search along a list, which has come to i, and none before i was one
 

@@ -17,13 +17,14 @@ use Rattle.params.specs.declared.answers.Answer.the-variants.{Complete, RecordL
 use Rattle.params.specs.declared.answers.Outcome.{Outcome}
 use Rattle.params.specs.Answers.{numberOf, refused}
 use Rattle.params.specs.Refusals.{orElse}
+use Rattle.params.proofs.Accepted.{past, neither, stage-refuses}
 use Rattle.record.specs.Record.{most, head, following, stray, cornersIn, wholeOf, statedIn, countIn, numberIn}
 use Rattle.record.specs.Record.{writeRefusal, readRefusal, outcomeWith, unlessRefused}
 use Rattle.record.specs.Stages.{lengthRefusal, versionRefusal, countRefusal, headRefusal}
 
 -- ---- what an answer leaves: n is its number
 
-module _ {a : Answer} {n : ℕ} (is : n ≡ numberOf a) where
+module _ (a : Answer) {n : ℕ} (is : n ≡ numberOf a) where
   pub refused-told : (n ≡ 0 → ⊥) → {o : Outcome} → o ≡ refused a → (c w h : ℕ) → o ≡ outcomeWith a c w h
   refused-told z e c w h = rw (← is, ne-eqb n 0 z) e
 
@@ -92,12 +93,14 @@ module _ (v k : ℕ) (file : List ℕ) (room : ℕ) where
 
   chained : readRefusal v k file room ≡ orElse (headRefusal v k file) after
   unfolding readRefusal lengthRefusal versionRefusal countRefusal
-  chained = chain _ _ _ after
+  chained =
+      chain (ltb (length file) head || not (eqb (statedIn file) (length file - 5))) (not (eqb (byteAt file 0) v))
+      (not (eqb (statedIn file) (following k (countIn file))) || ltb most (countIn file)) after
 
   -- x is what the first three come to, and m its number
   module _ {x : Answer} (first : x ≡ headRefusal v k file) {m : ℕ} (is : m ≡ numberOf x) where
     pub head-refuses : (m ≡ 0 → ⊥) → x ≡ readRefusal v k file room
-    head-refuses z = rw (chained, ← first, ← is, ne-eqb m 0 z)
+    head-refuses z = rw chained (stage-refuses (headRefusal v k file) after first is z)
 
     module _ (z : m ≡ 0) {n : ℕ} (of : n ≡ k * countIn file) {b : Bool}
         (found : b ≡ any (λ i. stray (numberIn file i)) (range 0 n)) where
@@ -136,13 +139,6 @@ module _ (k : ℕ) (list : List Float) (room : ℕ) {n : ℕ} (of : n ≡ corner
 
 -- ---- what is known where nothing is refused
 
-none-of : (a b c : Bool) → numberOf (cond a CornerCount (cond b NotFinite (cond c OutputTooShort Complete))) ≡ 0
-    → (a ≡ false) × (b ≡ false) × (c ≡ false)
-none-of true b c e = absurd (omega arith)
-none-of false true c e = absurd (omega arith)
-none-of false false true e = absurd (omega arith)
-none-of false false false e = (refl, refl, refl)
-
 pub record WriteTaken (k : ℕ) (list : List Float) (room : ℕ) : Type 0 where
   pub few : cornersIn k list ≤ most
   pub finite : any stray (wholeOf k list) ≡ false
@@ -151,22 +147,10 @@ pub record WriteTaken (k : ℕ) (list : List Float) (room : ℕ) : Type 0 where
 pub write-known : (k : ℕ) (list : List Float) (room : ℕ) → numberOf (writeRefusal k list room) ≡ 0 → WriteTaken k list room
 unfolding writeRefusal
 write-known k list room e =
-    let p = none-of _ _ _ e in
-    record { few = ltb-false _ _ (p .0); finite = p .1; fits = ltb-false _ _ (p .2) }
-
-none-in : (a b c d e : Bool)
-    → numberOf (cond a RecordLength (cond b RecordVersion (cond c CornerCount (cond d NotFinite (cond e OutputTooShort Complete))))) ≡ 0
-    → (a ≡ false) × (b ≡ false) × (c ≡ false) × (d ≡ false) × (e ≡ false)
-none-in true b c d e z = absurd (omega arith)
-none-in false true c d e z = absurd (omega arith)
-none-in false false true d e z = absurd (omega arith)
-none-in false false false true e z = absurd (omega arith)
-none-in false false false false true z = absurd (omega arith)
-none-in false false false false false z = (refl, refl, refl, refl, refl)
-
-neither : (a b : Bool) → a || b ≡ false → (a ≡ false) × (b ≡ false)
-neither true b e = absurd (let z : _≡_ {A = ℕ} 0 1 = cc in omega arith)
-neither false b e = (refl, e)
+    let a = past _ _ _ refl e in
+    let b = past _ _ _ refl (a .1) in
+    let c = past _ _ _ refl (b .1) in
+    record { few = ltb-false _ _ (a .0); finite = b .0; fits = ltb-false _ _ (c .0) }
 
 pub record ReadTaken (v k : ℕ) (file : List ℕ) (room : ℕ) : Type 0 where
   pub long : head ≤ length file
@@ -180,14 +164,18 @@ pub record ReadTaken (v k : ℕ) (file : List ℕ) (room : ℕ) : Type 0 where
 pub read-known : (v k : ℕ) (file : List ℕ) (room : ℕ) → numberOf (readRefusal v k file room) ≡ 0 → ReadTaken v k file room
 unfolding readRefusal
 read-known v k file room z =
-    let p = none-in _ _ _ _ _ z in
-    let l = neither _ _ (p .0) in
-    let c = neither _ _ (p .2) in record {
-      long = ltb-false _ _ (l .0);
-      stated = eqb-true _ _ (not-false _ (l .1));
-      version = eqb-true _ _ (not-false _ (p .1));
-      agrees = eqb-true _ _ (not-false _ (c .0));
-      few = ltb-false _ _ (c .1);
-      finite = p .3;
-      fits = ltb-false _ _ (p .4);
+    let a = past _ _ _ refl z in
+    let b = past _ _ _ refl (a .1) in
+    let c = past _ _ _ refl (b .1) in
+    let d = past _ _ _ refl (c .1) in
+    let e = past _ _ _ refl (d .1) in
+    let length = neither _ _ (a .0) in
+    let count = neither _ _ (c .0) in record {
+      long = ltb-false _ _ (length .0);
+      stated = eqb-true _ _ (not-false _ (length .1));
+      version = eqb-true _ _ (not-false _ (b .0));
+      agrees = eqb-true _ _ (not-false _ (count .0));
+      few = ltb-false _ _ (count .1);
+      finite = d .0;
+      fits = ltb-false _ _ (e .0);
     }
