@@ -2,6 +2,7 @@
 pub mod Taken
 pub mod Strays
 pub mod Puts
+pub mod Calls
 pub mod Chains
 pub mod RoundTrip
 pub mod KeptLists
