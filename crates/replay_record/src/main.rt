@@ -19,7 +19,7 @@ const MAX_SIDE: usize = 65535;
 // What each byte of the two is before a call: of the output, and of the patterns of the list's numbers.
 const OLD: u8 = 165;
 
-const OLD_NUMBER: u32 = 0xa5a5_a5a5;
+const OLD_NUMBER: u64 = 0xa5a5_a5a5;
 
 // What was compared, and the place behind it: how many things disagree, what the vector is, and what it was answered.
 struct Compared {
@@ -41,7 +41,7 @@ struct Answers {
 }
 
 // What a call answered, and how many things disagree.
-struct Called {
+struct Answered {
     answer: u64,
     wrong: usize,
 }
@@ -132,7 +132,7 @@ fn vector(s: &[u8], at: usize) -> Compared {
     }
 }
 
-fn called(kind: u64, given: &[u8], s: &[u8], at: usize, due: usize) -> Called {
+fn called(kind: u64, given: &[u8], s: &[u8], at: usize, due: usize) -> Answered {
     if kind == READ {
         return read(given, s, at, due);
     }
@@ -145,22 +145,26 @@ fn field(s: &[u8], at: usize, n: usize) -> u64 {
 }
 
 // A record into a list, of which as much is lent as the vector says.
-fn read(file: &[u8], s: &[u8], at: usize, due: usize) -> Called {
-    let mut list = [f32::from_bits(OLD_NUMBER); 1024];
+fn read(file: &[u8], s: &[u8], at: usize, due: usize) -> Answered {
+    let mut list = old_list();
     let room = vectors::capped(field(s, at, 12), NUMBERS);
-    let outcome = record::read_record(file, &mut list[..room]);
+    let outcome = record::read_record(file, &mut list[0..room]);
     against(outcome, s, at, list_differs(&list, s, due))
 }
 
+fn old_list() -> [f32; 1024] {
+    [vectors::float(OLD_NUMBER); 1024]
+}
+
 // A list into an output, of which as much is lent as the vector says.
-fn written(patterns: &[u8], s: &[u8], at: usize, due: usize) -> Called {
+fn written(patterns: &[u8], s: &[u8], at: usize, due: usize) -> Answered {
     let list = numbers(patterns);
     let n = vectors::capped((patterns.len() / 4) as u64, NUMBERS);
     let mut out = [OLD; 4096];
     let room = vectors::capped(field(s, at, 12), BYTES);
     let w = side(s, at, 4);
     let h = side(s, at, 8);
-    let outcome = record::write_record(w, h, &list[..n], &mut out[..room]);
+    let outcome = record::write_record(w, h, &list[0..n], &mut out[0..room]);
     against(outcome, s, at, output_differs(&out, s, due))
 }
 
@@ -180,7 +184,7 @@ fn side(s: &[u8], at: usize, n: usize) -> u16 {
 }
 
 // The answer, the count and the sides; so many other things disagree.
-fn against(outcome: Outcome, s: &[u8], at: usize, others: usize) -> Called {
+fn against(outcome: Outcome, s: &[u8], at: usize, others: usize) -> Answered {
     let answer = outcome.answer;
     let number = answer.number() as u64;
     let head = vectors::plus(
@@ -191,14 +195,14 @@ fn against(outcome: Outcome, s: &[u8], at: usize, others: usize) -> Called {
         vectors::differ(outcome.w as u64, field(s, at, 24)),
         vectors::differ(outcome.h as u64, field(s, at, 28)),
     );
-    Called {
+    Answered {
         answer: number,
         wrong: vectors::plus(others, vectors::plus(head, sides)),
     }
 }
 
 // The numbers that are due, and behind them those that were there before.
-fn list_differs(list: &[f32], s: &[u8], due: usize) -> usize {
+fn list_differs(list: &[f32; 1024], s: &[u8], due: usize) -> usize {
     let n = vectors::capped(vectors::word(s, due), BYTES) / 4;
     let c = replay::floats(s, vectors::skip(s, due, 4), list, n);
     vectors::plus(c.wrong, list_changed(list, n))
@@ -214,7 +218,7 @@ fn list_changed(list: &[f32], from: usize) -> usize {
 }
 
 // The bytes that are due, and behind them those that were there before.
-fn output_differs(out: &[u8], s: &[u8], due: usize) -> usize {
+fn output_differs(out: &[u8; 4096], s: &[u8], due: usize) -> usize {
     let n = vectors::capped(vectors::word(s, due), BYTES);
     let c = replay::bytes(s, vectors::skip(s, due, 4), out, n);
     vectors::plus(c.wrong, output_changed(out, n))
