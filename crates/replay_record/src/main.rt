@@ -126,9 +126,18 @@ fn vector(s: &[u8], at: usize) -> Compared {
     let c = called(kind, vectors::sized(s, given), s, at, due);
     Compared {
         next: vectors::behind(s, due),
-        wrong: c.wrong,
+        wrong: vectors::plus(c.wrong, overlong(s, due)),
         kind,
         answer: c.answer,
+    }
+}
+
+// 1 where more is due than a buffer has room for, or the list ends before it says how much.
+fn overlong(s: &[u8], due: usize) -> usize {
+    if vectors::word(s, due) > BYTES as u64 {
+        1
+    } else {
+        0
     }
 }
 
