@@ -31,19 +31,19 @@ over-put vs xs = rw over-none at (over-sets vs [] xs)
 
 -- ---- the head, field by field
 
-pub head-put : (v stated w h n : ℕ) (old : List ℕ) → head ≤ length old → {a b c d : List ℕ}
-    → a ≡ putAt 1 (wordBytes stated) (set old 0 v) → b ≡ putAt 5 (halfBytes w) a → c ≡ putAt 7 (halfBytes h) b → d ≡ putAt 9 (wordBytes n) c
+pub head-put : (v stated w h n : ℕ) (old : List ℕ) → head ≤ length old → {s : ℕ} → s ≡ stated → {a b c d : List ℕ}
+    → a ≡ putAt 1 (wordBytes s) (set old 0 v) → b ≡ putAt 5 (halfBytes w) a → c ≡ putAt 7 (halfBytes h) b → d ≡ putAt 9 (wordBytes n) c
     → d ≡ over (v ∷ (wordBytes stated ++ (halfBytes w ++ (halfBytes h ++ wordBytes n)))) old
-head-put v stated w h n old room {a} {b} {c} {d} p q r t =
+head-put v stated w h n old room {s} e {a} {b} {c} {d} p q r t =
     let first : length (set old 0 v) ≡ length old = length-set old 0 v in
-    let la : length a ≡ length (set old 0 v) = ap length p ∙ length-put 1 (wordBytes stated) (set old 0 v) in
+    let la : length a ≡ length (set old 0 v) = ap length p ∙ length-put 1 (wordBytes s) (set old 0 v) in
     let lb : length b ≡ length a = ap length q ∙ length-put 5 (halfBytes w) a in
     let lc : length c ≡ length b = ap length r ∙ length-put 7 (halfBytes h) b in
-    let pa : a ≡ sets (set old 0 v) 1 (wordBytes stated) = p ∙ put-plain 1 (wordBytes stated) (set old 0 v) (omega arith) in
+    let pa : a ≡ sets (set old 0 v) 1 (wordBytes s) = p ∙ put-plain 1 (wordBytes s) (set old 0 v) (omega arith) in
     let pb : b ≡ sets a 5 (halfBytes w) = q ∙ put-plain 5 (halfBytes w) a (omega arith) in
     let pc : c ≡ sets b 7 (halfBytes h) = r ∙ put-plain 7 (halfBytes h) b (omega arith) in
     let pd : d ≡ sets c 9 (wordBytes n) = t ∙ put-plain 9 (wordBytes n) c (omega arith) in
-    rw (pd, pc, pb, pa) (over-put (v ∷ (wordBytes stated ++ (halfBytes w ++ (halfBytes h ++ wordBytes n)))) old)
+    rw (pd, pc, pb, pa, e) (over-put (v ∷ (wordBytes stated ++ (halfBytes w ++ (halfBytes h ++ wordBytes n)))) old)
 
 -- ---- the numbers, one by one: the numbers before i of the list are put, each as four bytes
 

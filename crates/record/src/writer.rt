@@ -16,7 +16,7 @@ ghost use Prim.Native.Nat.{_+_, _*_, _≤_};
 ghost use lib.ListN.{length, take};
 ghost use lib.Seq.{sets};
 ghost use Rattle.grid.specs.Over.{over};
-ghost use Rattle.record.specs.Record.{version, stride, headOf, bytesOf, writeRefusal, writeOutcome, written};
+ghost use Rattle.record.specs.Record.{version, stride, following, headOf, bytesOf, writeRefusal, writeOutcome, written};
 
 // Answers 18 to 20, the lowest that applies: `room` is the output's length. Numbers beyond the whole corners are not looked at.
 fn judge_list(list: &[f32], room: usize) -> Answer
@@ -35,14 +35,21 @@ fn judge_list(list: &[f32], room: usize) -> Answer
     Answer::Complete
 }
 
+// How many bytes follow the stated length, where there are that many corners.
+fn follows(count: usize) -> u32
+    requires { ⌜ count ≤ 8388608 ⌝ }
+    ensures { λ r. ⌜ r ≡ following stride count ⌝ }
+{
+    (HEAD - LEAD + WORD * (STRIDE * count)) as u32
+}
+
 // The bytes before the corners.
 fn put_head(out: &mut [u8], w: u16, h: u16, count: usize)
     requires { ⌜ (13 ≤ length (now out)) × (count ≤ 8388608) ⌝ }
     ensures { λ _. ⌜ now (out .exit) ≡ over (headOf version stride w h count) (now (out .entry)) ⌝ }
 {
-    let follows = HEAD - LEAD + WORD * (STRIDE * count);
     out[0] = VERSION as u8;
-    put_word(out, 1, follows as u32);
+    put_word(out, 1, follows(count));
     put_half(out, 5, w);
     put_half(out, 7, h);
     put_word(out, 9, count as u32);

@@ -21,20 +21,8 @@ wide c = c .before .before .before .before
 abbrev stated : tie.After-put-half → tie.After-put-word
 stated c = c .before .before .before .before
 
-abbrev start : tie.After-put-word → tie.Start
+abbrev start : tie.After-follows → tie.Start
 start c = c .before .before .before
-
-sub-follows : tie.Need-sub-follows
-sub-follows c = search needs
-
-mul-follows : tie.Need-mul-follows
-mul-follows c = search needs
-
-mul-follows-2 : tie.Need-mul-follows-2
-mul-follows-2 c = search needs
-
-add-follows : tie.Need-add-follows
-add-follows c = search needs
 
 cast-out : tie.Need-cast-out
 cast-out c = search needs
@@ -42,8 +30,8 @@ cast-out c = search needs
 slice-write-out : tie.Need-slice-write-out
 slice-write-out c = search needs
 
-cast-put-word : tie.Need-cast-put-word
-cast-put-word c = search needs
+follows-requires : tie.Need-follows-requires
+follows-requires c κs = search needs
 
 put-word-requires : tie.Need-put-word-requires
 put-word-requires c κs = search needs
@@ -54,8 +42,8 @@ put-half-requires c κs = search needs
 put-half-requires-2 : tie.Need-put-half-requires-2
 put-half-requires-2 c κs = search needs
 
-cast-put-word-2 : tie.Need-cast-put-word-2
-cast-put-word-2 c = search needs
+cast-put-word : tie.Need-cast-put-word
+cast-put-word c = search needs
 
 put-word-requires-2 : tie.Need-put-word-requires-2
 put-word-requires-2 c κs = search needs
@@ -66,7 +54,9 @@ returns c =
     let h = high n in
     let w = wide h in
     let l = stated w in
-    head-put version _ _ _ _ _ (start l .pre .0) (l .put-word .ensures) (w .put-half .ensures) (h .put-half2 .ensures) (n .put-word2 .ensures)
+    let f = l .before in
+    head-put version _ _ _ _ _ (start f .pre .0) (f .follows .ensures) (l .put-word .ensures) (w .put-half .ensures)
+    (h .put-half2 .ensures) (n .put-word2 .ensures)
 
 same-length : tie.Need-same-length
 same-length c = ap length (returns c) ∙ length-over _ _
@@ -75,17 +65,13 @@ pub put-head-spec : {M : Type 1} → statement M
 put-head-spec =
     tie.close
     (tie.spec
-    sub-follows
-    mul-follows
-    mul-follows-2
-    add-follows
     cast-out
     slice-write-out
-    cast-put-word
+    follows-requires
     put-word-requires
     put-half-requires
     put-half-requires-2
-    cast-put-word-2
+    cast-put-word
     put-word-requires-2
     same-length
     returns)
