@@ -1,13 +1,13 @@
--- Laws of numbers in bytes: a number's bytes read back, bytes as the number's that they are, and a list opened byte by
--- byte. Assumes nothing.
+-- Laws of numbers in bytes: a number's bytes read back, bytes as the number's that they are, what stands past the end,
+-- and a list opened byte by byte. Assumes nothing.
 use mathlib.Core.Path.{_≡_, refl, ap, _∙_}
 use mathlib.Core.List.{List, [], _∷_}
 use Prim.Native.Nat.{ℕ, zero, suc, _+_, _*_, _/_, _%_, _≤_, _<_}
 use native.Mathlib.Omega.{arith}
 use lib.Dec.{lit<}
-use lib.ListN.{length, drop}
+use lib.ListN.{length, drop, List·getD-eq-default}
 use lib.Seq.{drop-cons}
-use Rattle.big_endian.specs.BigEndian.{byteAt}
+use Rattle.big_endian.specs.BigEndian.{byteAt, halfAt, wordAt}
 
 -- ---- the bytes of a number, read back
 
@@ -38,6 +38,21 @@ half-below a b h i = omega arith
 
 pub word-below : (a b c d : ℕ) → a < 256 → b < 256 → c < 256 → d < 256 → (a * 256 + b) * 65536 + (c * 256 + d) < 4294967296
 word-below a b c d g h i j = omega arith
+
+-- ---- past the end
+
+pub byte-past : (s : List ℕ) (at : ℕ) → length s ≤ at → byteAt s at ≡ 0
+byte-past s at h = List·getD-eq-default s 0 h
+
+pub half-past : (s : List ℕ) (at : ℕ) → length s ≤ at → halfAt s at ≡ 0
+half-past s at h = omega (arith, byte-past s at h, byte-past s (at + 1) (omega arith))
+
+pub word-past : (s : List ℕ) (at : ℕ) → length s ≤ at → wordAt s at ≡ 0
+word-past s at h = omega (arith, half-past s at h, half-past s (at + 2) (omega arith))
+
+-- two bytes are the last ones
+pub word-short : (s : List ℕ) (at : ℕ) {a : ℕ} → length s ≤ at + 2 → a ≡ halfAt s at → a * 65536 ≡ wordAt s at
+word-short s at h e = omega (arith, half-past s (at + 2) h)
 
 -- ---- a list of bytes
 

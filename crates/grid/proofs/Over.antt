@@ -119,7 +119,7 @@ take-over-le (suc n) [] xs h k = absurd (not-suc-le-zero h)
 take-over-le (suc n) (v ∷ vs) [] h k = absurd (not-suc-le-zero k)
 take-over-le {A} (suc n) (v ∷ vs) (x ∷ xs) h k = ap (λ (r : List A). v ∷ r) (take-over-le n vs xs (le-of-suc-le-suc h) (le-of-suc-le-suc k))
 
-drop-over : {A : Type 0} (vs xs : List A) → drop (length vs) (over vs xs) ≡ drop (length vs) xs
+pub drop-over : {A : Type 0} (vs xs : List A) → drop (length vs) (over vs xs) ≡ drop (length vs) xs
 unfolding over
 drop-over [] xs = refl
 drop-over (v ∷ vs) [] = refl

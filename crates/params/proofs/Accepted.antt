@@ -32,12 +32,12 @@ pub record ListPasses (p : RadonDetectorParams) : Type 0 where
 
 -- ---- one step of a chain
 
-past : (t : Bool) (x y : Answer) → eqb (numberOf x) 0 ≡ false → numberOf (cond t x y) ≡ 0
+pub past : (t : Bool) (x y : Answer) → eqb (numberOf x) 0 ≡ false → numberOf (cond t x y) ≡ 0
     → (t ≡ false) × (numberOf y ≡ 0)
 past true x y e h = absurd (true≢false (sym (eq-eqb (numberOf x) 0 h) ∙ e))
 past false x y e h = (refl, h)
 
-neither : (a b : Bool) → a || b ≡ false → (a ≡ false) × (b ≡ false)
+pub neither : (a b : Bool) → a || b ≡ false → (a ≡ false) × (b ≡ false)
 neither true b e = absurd (true≢false e)
 neither false b e = (refl, e)
 

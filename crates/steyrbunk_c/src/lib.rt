@@ -1,5 +1,5 @@
-// The finder, the map and the list, the square root and the logarithm for a C or Rust program to call: numbers and slices, and every answer as its
-// number. A slice is a pointer and a length there. The header in tools/steyrbunk/include explains each argument.
+// The finder, the map and the list, corner records, the square root and the logarithm for a C or Rust program to call: numbers and slices, and every
+// answer as its number. A slice is a pointer and a length there. The header in tools/steyrbunk/include explains each argument.
 ghost use mathlib.Core.Path.{_≡_};
 ghost use lib.ListN.{length};
 ghost use Rattle.scalar.specs.Log.{logOf, terms, high};
@@ -7,6 +7,7 @@ ghost use Rattle.scalar.specs.Root.{rootOf};
 ghost use Rattle.params.specs.Answers.{numberOf};
 ghost use Rattle.response.specs.Map.{mapLent, mappedOf, mapBuffersOf};
 ghost use Rattle.radon.specs.Finder.{lent};
+ghost use Rattle.record.specs.Record.{version, stride, writeOutcome, written, readOutcome, readBack};
 ghost use Rattle.steyrbunk_c.specs.Called.{settingsOf, mapSettings, reported, told, mapReported, mapTold};
 ghost use Rattle.steyrbunk_c.specs.Called.{calledOutcome, calledBuffers, calledPeaks, calledList};
 ghost use Rattle.steyrbunk_c.specs.OrNan.{rootOrNan, logOrNan};
@@ -16,6 +17,8 @@ use params::Outcome;
 use params::PeakFitMode;
 use params::RadonDetectorParams;
 use radon::radon_corners_u8;
+use record::read_record;
+use record::write_record;
 use response::radon_response_u8;
 use scalar::Log;
 use scalar::Root;
@@ -181,6 +184,40 @@ pub extern "C" fn steyrbunk_peaks(
     let answer = o.answer;
     *count = o.count;
     answer.number()
+}
+
+// The record of a list, with the sides of its working image.
+#[no_mangle]
+pub extern "C" fn steyrbunk_write_record(
+    w: u16,
+    h: u16,
+    list: &[f32],
+    out: &mut [u8],
+    count: &mut usize,
+    ww: &mut usize,
+    wh: &mut usize,
+) -> u32
+    ensures told { λ r. ⌜ reported r (now (count .exit)) (now (ww .exit)) (now (wh .exit))
+        ≡ told (writeOutcome stride w h (now (list .entry)) (length (now (out .entry)))) ⌝ }
+    ensures output { λ _. ⌜ now (out .exit) ≡ written version stride w h (now (list .entry)) (now (out .entry)) ⌝ }
+{
+    tell(write_record(w, h, list, out), count, ww, wh)
+}
+
+// The list of a record, and its sides.
+#[no_mangle]
+pub extern "C" fn steyrbunk_read_record(
+    file: &[u8],
+    list: &mut [f32],
+    count: &mut usize,
+    ww: &mut usize,
+    wh: &mut usize,
+) -> u32
+    ensures told { λ r. ⌜ reported r (now (count .exit)) (now (ww .exit)) (now (wh .exit))
+        ≡ told (readOutcome version stride (now (file .entry)) (length (now (list .entry)))) ⌝ }
+    ensures list { λ _. ⌜ now (list .exit) ≡ readBack version stride (now (file .entry)) (now (list .entry)) ⌝ }
+{
+    tell(read_record(file, list), count, ww, wh)
 }
 
 // The square root. NaN stands for "outside", here and below.

@@ -1,0 +1,72 @@
+-- `record::writer::write_record` meets its contract: what the judge refuses is left, and all else is put. Assumes nothing.
+use mathlib.Core.List.{List}
+use Prim.Native.Nat.{ℕ}
+use denote.Ref.{now}
+use borrow.Author.Needs.{needs}
+use Rattle.record.specs.Record.{version, stride}
+use Rattle.record.proofs.Calls.{write-refused, head-may, numbers-may, write-done}
+use Rattle.record.proofs.writer.write_record.Statement.{statement}
+use Rattle.record.proofs.writer.write_record.Tie as tie
+
+-- what was lent, and the way back from the numbers to the head
+abbrev output : tie.After-judge-list → List ℕ
+output c = now (c .before .before .before .args .out)
+
+abbrev headed : tie.After-put-numbers → tie.After-put-head
+headed c = c .before .before .before .before
+
+judge-list-requires : tie.Need-judge-list-requires
+judge-list-requires c κs = search needs
+
+number-requires : tie.Need-number-requires
+number-requires c κs = search needs
+
+refusal-requires : tie.Need-refusal-requires
+refusal-requires c κs = search needs
+
+returns : tie.Need-returns
+returns c =
+    let t = c .before in
+    let m = t .before in
+    write-refused version stride _ _ _ _ (m .before .judge-list .ensures) (m .number .ensures) (t .if1 .taken) (c .refusal .ensures)
+
+put-head-requires : tie.Need-put-head-requires
+put-head-requires c κs =
+    let e = c .before in
+    let m = e .before in
+    head-may version stride 0 0 _ (output (m .before)) (m .before .judge-list .ensures) (m .number .ensures) (e .if1 .left)
+
+mul-put-numbers : tie.Need-mul-put-numbers
+mul-put-numbers c = search needs
+
+put-numbers-requires : tie.Need-put-numbers-requires
+put-numbers-requires c κs =
+    let d = c .before .before .before in
+    let e = d .before .before in
+    let m = e .before in
+    numbers-may version stride _ _ _ _ (m .before .judge-list .ensures) (m .number .ensures) (e .if1 .left) (d .put-head .ensures)
+
+same-length : tie.Need-same-length
+same-length c = search needs
+
+returns-2 : tie.Need-returns-2
+returns-2 c =
+    let p = c .before .before in
+    let d = headed p in
+    let e = d .before .before in
+    let m = e .before in
+    write-done version stride _ _ _ _ (m .before .judge-list .ensures) (m .number .ensures) (e .if1 .left) (d .put-head .ensures) (p .put-numbers .ensures)
+
+pub write-record-spec : {M : Type 1} → statement M
+write-record-spec =
+    tie.close
+    (tie.spec
+    judge-list-requires
+    number-requires
+    refusal-requires
+    returns
+    put-head-requires
+    mul-put-numbers
+    put-numbers-requires
+    same-length
+    returns-2)
