@@ -9,6 +9,7 @@ use borrow.Author.Tests.{lt-ltb, le-ltb, eq-eqb, ne-eqb}
 use lib.Dec.{eqb}
 use lib.Ieee.{Float, binary32, ofBits}
 use lib.ListN.{length}
+use Rattle.big_endian.specs.BigEndian.{byteAt, halfAt, wordAt}
 use Rattle.params.specs.declared.answers.Answer.{Answer}
 use Rattle.params.specs.declared.answers.Answer.the-variants.{FileTooLong, FileTooShort}
 use Rattle.params.specs.declared.settings.PeakFitMode.{PeakFitMode}
@@ -20,7 +21,7 @@ use Rattle.frame.specs.declared.Reading.{Reading}
 use Rattle.frame.specs.declared.Reading.the-variants.{Frame, Refused}
 use Rattle.frame.specs.declared.fields.Field.{Field}
 use Rattle.frame.specs.declared.fields.Field.the-variants as number
-use Rattle.frame.specs.FrameFile.{byteAt, halfAt, wordAt, headerOf, withMode, headerRead, readOf}
+use Rattle.frame.specs.FrameFile.{headerOf, withMode, headerRead, readOf}
 use Rattle.frame.specs.Fields.{held}
 
 -- ---- the file's length

@@ -1,16 +1,17 @@
 -- No good file is refused: the bytes that document 01 prescribes for a header and pixels are taken, and mean that
 -- header and those pixels. And no other file is taken: every taken file is the one for its fields and pixels. Assumes
 -- nothing.
-use mathlib.Core.Path.{_≡_, refl, sym, ap, _∙_}
+use mathlib.Core.Path.{_≡_, refl, _∙_}
 use mathlib.Core.Bool.{Bool, true, false, cond}
-use mathlib.Core.List.{List, [], _∷_}
-use Prim.Native.Nat.{ℕ, zero, suc, _+_, _-_, _*_, _/_, _%_, _≤_, _<_}
+use mathlib.Core.List.{List, _∷_, _++_}
+use Prim.Native.Nat.{ℕ, _+_, _-_, _≤_, _<_}
 use native.Mathlib.Omega.{arith}
 use borrow.Author.Tests.{le-ltb, eq-eqb, ltb-false, eqb-true, not-false}
 use lib.Dec.{lit<}
 use lib.Ieee.{binary32, ofBits}
 use lib.ListN.{length, drop, length-drop}
-use lib.Seq.{drop-cons}
+use Rattle.big_endian.specs.BigEndian.{byteAt, halfAt, wordAt, halfBytes, wordBytes}
+use Rattle.big_endian.proofs.Numbers.{Bytes, halves, words, half-bytes, word-bytes, half-back, word-back, byte-below, opened-is}
 use Rattle.params.specs.declared.answers.Answer.{Answer}
 use Rattle.params.specs.declared.settings.PeakFitMode.{PeakFitMode}
 use Rattle.params.specs.declared.settings.NumberedMode.{NumberedMode}
@@ -19,7 +20,7 @@ use Rattle.params.specs.Settings.{modeNumbered}
 use Rattle.frame.specs.declared.Header.{Header}
 use Rattle.frame.specs.declared.Reading.{Reading}
 use Rattle.frame.specs.declared.Reading.the-variants.{Frame, Refused}
-use Rattle.frame.specs.FrameFile.{byteAt, halfAt, wordAt, headerOf, withMode, headerRead, readOf}
+use Rattle.frame.specs.FrameFile.{headerOf, withMode, headerRead, readOf}
 
 -- what the fields hold, as numbers
 pub record Fields : Type 0 where
@@ -45,23 +46,16 @@ pub record InRange (f : Fields) : Type 0 where
   pub least : f .least < 65536
   pub threshold : f .threshold < 4294967296
 
--- n in front of what follows, as two bytes and as four
-abbrev halfThen : ℕ → List ℕ → List ℕ
-halfThen n l = n / 256 ∷ n % 256 ∷ l
-
-abbrev wordThen : ℕ → List ℕ → List ℕ
-wordThen n l = n / 16777216 ∷ n / 65536 % 256 ∷ n / 256 % 256 ∷ n % 256 ∷ l
-
 -- the file: byte 0, bytes 1 to 4, and so on to byte 19, then the pixels
 abbrev pub fileOf : Fields → List ℕ → List ℕ
 fileOf f pixels =
     1
-    ∷ wordThen (15 + length pixels)
-    (halfThen (f .width)
-    (halfThen (f .height)
-    (f .ray ∷ f .upsampling ∷ f .blur ∷ f .mode ∷ f .suppression
-    ∷ halfThen (f .least)
-    (wordThen (f .threshold) pixels))))
+    ∷ (wordBytes (15 + length pixels)
+    ++ (halfBytes (f .width)
+    ++ (halfBytes (f .height)
+    ++ (f .ray ∷ f .upsampling ∷ f .blur ∷ f .mode ∷ f .suppression
+    ∷ (halfBytes (f .least)
+    ++ (wordBytes (f .threshold) ++ pixels))))))
 
 -- the header with these numbers, where the mode's stands for `fit`
 abbrev pub headerWith : Fields → PeakFitMode → Header
@@ -78,19 +72,6 @@ headerWith f fit = record {
     «threshold_rel» = ofBits binary32 (f .threshold);
   };
 }
-
-halves : (n : ℕ) → n / 256 * 256 + n % 256 ≡ n
-halves n = omega arith
-
-words : (n : ℕ) → (n / 16777216 * 256 + n / 65536 % 256) * 65536 + (n / 256 % 256 * 256 + n % 256) ≡ n
-words n = omega arith
-
-half-bytes : (n : ℕ) → n < 65536 → (n / 256 < 256) × (n % 256 < 256)
-half-bytes n h = omega arith
-
-word-bytes : (n : ℕ) → n < 4294967296
-    → (n / 16777216 < 256) × (n / 65536 % 256 < 256) × (n / 256 % 256 < 256) × (n % 256 < 256)
-word-bytes n h = omega arith
 
 pub good-file-taken : (limit : ℕ) (f : Fields) (fit : PeakFitMode) (pixels : List ℕ)
     → modeNumbered (f .mode) ≡ numbered.Known fit → 20 + length pixels ≤ limit
@@ -115,10 +96,6 @@ pub good-file-pixels : (f : Fields) (pixels : List ℕ) → drop 20 (fileOf f pi
 good-file-pixels f pixels = refl
 
 -- and it is a file: every entry is a byte
-abbrev pub Bytes : List ℕ → Type 0
-Bytes [] = Unit {0}
-Bytes (b ∷ l) = (b < 256) × Bytes l
-
 pub good-file-bytes : (f : Fields) (pixels : List ℕ) → InRange f → Bytes pixels → 15 + length pixels < 4294967296
     → Bytes (fileOf f pixels)
 good-file-bytes f pixels r b h =
@@ -182,29 +159,6 @@ fieldsOf file = record {
   least = halfAt file 14;
   threshold = wordAt file 16;
 }
-
--- the first k entries from `at` on, one by one, and the rest
-abbrev opened : ℕ → ℕ → List ℕ → List ℕ
-opened zero at file = drop at file
-opened (suc k) at file = byteAt file at ∷ opened k (suc at) file
-
-opened-is : (k at : ℕ) (file : List ℕ) → at + k ≤ length file → drop at file ≡ opened k at file
-opened-is zero at file h = refl
-opened-is (suc k) at file h =
-    drop-cons file at 0 (omega arith)
-    ∙ ap (λ (l : List ℕ). byteAt file at ∷ l) (opened-is k (suc at) file (omega arith))
-
-byte-below : (file : List ℕ) → Bytes file → (i : ℕ) → byteAt file i < 256
-byte-below [] b i = lit< tt
-byte-below (a ∷ l) b zero = b .0
-byte-below (a ∷ l) b (suc i) = byte-below l (b .1) i
-
-half-back : (a b : ℕ) → b < 256 → ((a * 256 + b) / 256 ≡ a) × ((a * 256 + b) % 256 ≡ b)
-half-back a b h = omega arith
-
-word-back : (a b c d : ℕ) → b < 256 → c < 256 → d < 256 → let n = (a * 256 + b) * 65536 + (c * 256 + d) in
-    (n / 16777216 ≡ a) × (n / 65536 % 256 ≡ b) × (n / 256 % 256 ≡ c) × (n % 256 ≡ d)
-word-back a b c d h i j = omega arith
 
 past : (t : Bool) (a : Answer) (b : Reading) (h : Header) → cond t (Refused a) b ≡ Frame h → (t ≡ false) × (b ≡ Frame h)
 past true a b h e = absurd (let z : _≡_ {A = ℕ} 0 1 = cc in omega arith)

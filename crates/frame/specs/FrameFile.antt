@@ -3,11 +3,12 @@
 use mathlib.Core.Path.{_≡_}
 use mathlib.Core.Bool.{not, cond}
 use mathlib.Core.List.{List}
-use Prim.Native.Nat.{ℕ, _+_, _-_, _*_, min}
+use Prim.Native.Nat.{ℕ, _+_, _-_, min}
 use lib.Dec.{ltb, eqb}
 use lib.Ieee.{binary32, ofBits}
-use lib.ListN.{length, getD, drop}
+use lib.ListN.{length, drop}
 use denote.Ref.{RefT, now, ptr}
+use Rattle.big_endian.specs.BigEndian.{byteAt, halfAt, wordAt}
 use Rattle.params.specs.declared.answers.Answer.the-variants.{FileTooLong, FileTooShort, Version, StatedLength}
 use Rattle.params.specs.declared.settings.PeakFitMode.{PeakFitMode}
 use Rattle.params.specs.declared.settings.NumberedMode.{NumberedMode}
@@ -17,18 +18,8 @@ use Rattle.frame.specs.declared.Header.{Header}
 use Rattle.frame.specs.declared.Reading.{Reading}
 use Rattle.frame.specs.declared.Reading.the-variants.{Frame, Refused}
 
--- "Big-endian."
-abbrev pub byteAt : List ℕ → ℕ → ℕ
-byteAt file at = getD file at 0
-
-abbrev pub halfAt : List ℕ → ℕ → ℕ
-halfAt file at = byteAt file at * 256 + byteAt file (at + 1)
-
-abbrev pub wordAt : List ℕ → ℕ → ℕ
-wordAt file at = halfAt file at * 65536 + halfAt file (at + 2)
-
--- "Byte 0: version 1. Bytes 1 to 4: number of bytes that follow them. Then width, height (2 each), ray, upsampling,
--- blur, mode, suppression (1 each), least count (2), threshold bits (4), pixels"
+-- "Big-endian. Byte 0: version 1. Bytes 1 to 4: number of bytes that follow them. Then width, height (2 each), ray,
+-- upsampling, blur, mode, suppression (1 each), least count (2), threshold bits (4), pixels"
 unfoldable pub headerOf : List ℕ → PeakFitMode → Header
 headerOf file mode = record {
   width = halfAt file 5;

@@ -1,4 +1,8 @@
 // The frame file: which bytes are taken, and what they mean.
+use big_endian::byte_at;
+use big_endian::float;
+use big_endian::half_at;
+use big_endian::word_at;
 use fields::Field;
 use params::Answer;
 use params::NumberedMode;
@@ -63,21 +67,20 @@ fn read_header(file: &[u8]) -> Reading
 
 // The header with that mode. No other of its fields can be refused.
 fn header_of(file: &[u8], fit: PeakFitMode) -> Header
-    requires { ⌜ 20 ≤ length (now file) ⌝ }
     ensures { λ r. ⌜ r ≡ headerOf (now (file .entry)) fit ⌝ }
 {
     let params = RadonDetectorParams {
-        ray_radius: fields::byte(file, 9),
-        image_upsample: fields::byte(file, 10),
-        response_blur_radius: fields::byte(file, 11),
+        ray_radius: byte_at(file, 9),
+        image_upsample: byte_at(file, 10),
+        response_blur_radius: byte_at(file, 11),
         peak_fit: fit,
-        nms_radius: fields::byte(file, 13),
-        min_cluster_size: fields::half(file, 14),
-        threshold_rel: fields::float(fields::word(file, 16)),
+        nms_radius: byte_at(file, 13),
+        min_cluster_size: half_at(file, 14),
+        threshold_rel: float(word_at(file, 16)),
     };
     Header {
-        width: fields::half(file, 5) as usize,
-        height: fields::half(file, 7) as usize,
+        width: half_at(file, 5) as usize,
+        height: half_at(file, 7) as usize,
         params,
     }
 }

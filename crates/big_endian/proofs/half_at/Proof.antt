@@ -1,5 +1,6 @@
 -- `big_endian::half_at` meets its contract: two bytes, or 0 past the end. Assumes nothing.
 use mathlib.Core.Path.{sym}
+use native.Mathlib.Omega.{arith}
 use borrow.Author.Needs.{needs}
 use lib.Dec.{lit<}
 use Rattle.big_endian.proofs.Numbers.{half-past}
@@ -27,7 +28,7 @@ add-result : tie.Need-add-result
 add-result c = search needs
 
 returns-2 : tie.Need-returns-2
-returns-2 c = search needs
+returns-2 c = omega arith
 
 pub half-at-spec : {M : Type 1} → statement M
 half-at-spec =

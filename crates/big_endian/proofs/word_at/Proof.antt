@@ -38,7 +38,7 @@ add-result : tie.Need-add-result
 add-result c = search needs
 
 returns-3 : tie.Need-returns-3
-returns-3 c = search needs
+returns-3 c = omega arith
 
 pub word-at-spec : {M : Type 1} → statement M
 word-at-spec =

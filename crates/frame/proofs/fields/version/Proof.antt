@@ -5,14 +5,14 @@ use Rattle.frame.proofs.Order.{refuses, holds}
 use Rattle.frame.proofs.fields.version.Statement.{statement}
 use Rattle.frame.proofs.fields.version.Tie as tie
 
-byte-requires : tie.Need-byte-requires
-byte-requires c κs = search needs
+byte-at-requires : tie.Need-byte-at-requires
+byte-at-requires c κs = search needs
 
 returns : tie.Need-returns
-returns c = refuses Version _ 1 (c .before .byte .ensures .0) (c .if1 .taken)
+returns c = refuses Version _ 1 (c .before .byte-at .ensures .0) (c .if1 .taken)
 
 returns-2 : tie.Need-returns-2
-returns-2 c = holds Version _ 1 (c .before .byte .ensures .0) (c .if1 .left)
+returns-2 c = holds Version _ 1 (c .before .byte-at .ensures .0) (c .if1 .left)
 
 pub version-spec : {M : Type 1} → statement M
-version-spec = tie.close (tie.spec byte-requires returns returns-2)
+version-spec = tie.close (tie.spec byte-at-requires returns returns-2)

@@ -1,0 +1,80 @@
+-- `replay_record::replayed` meets its contract: each turn leaves a vector fewer to read. Assumes nothing.
+use borrow.Author.Needs.{needs}
+use Rattle.replay.proofs.Counting.{fewer}
+use Rattle.replay_record.proofs.replayed.Statement.{statement}
+use Rattle.replay_record.proofs.replayed.Tie as tie
+
+abbrev Inv-loop : tie.InvT-loop
+Inv-loop s walk₀ reads₀ writes₀ walk reads writes = Unit {0}
+
+abbrev μ-loop : tie.MeasureT-loop
+μ-loop s walk₀ reads₀ writes₀ walk reads writes = walk .left
+
+start-requires : tie.Need-start-requires Inv-loop μ-loop
+start-requires c κs = search needs
+
+none-requires : tie.Need-none-requires Inv-loop μ-loop
+none-requires c κs = search needs
+
+none-requires-2 : tie.Need-none-requires-2 Inv-loop μ-loop
+none-requires-2 c κs = search needs
+
+loop-holds : tie.Need-loop-holds Inv-loop μ-loop
+loop-holds c = search needs
+
+more-requires : tie.Need-more-requires Inv-loop μ-loop
+more-requires c κs = search needs
+
+vector-requires : tie.Need-vector-requires Inv-loop μ-loop
+vector-requires c κs = search needs
+
+after-requires : tie.Need-after-requires Inv-loop μ-loop
+after-requires c κs = search needs
+
+with-requires : tie.Need-with-requires Inv-loop μ-loop
+with-requires c κs = search needs
+
+with-requires-2 : tie.Need-with-requires-2 Inv-loop μ-loop
+with-requires-2 c κs = search needs
+
+loop-less : tie.Need-loop-less Inv-loop μ-loop
+loop-less c =
+    let w = c .before .before in
+    fewer _ _ _ _ _ (w .before .before .before .more .ensures) (w .before .before .if1 .taken) (w .after .ensures)
+
+loop-again : tie.Need-loop-again Inv-loop μ-loop
+loop-again c = search needs
+
+head-requires : tie.Need-head-requires Inv-loop μ-loop
+head-requires c κs = search needs
+
+tell-reads-requires : tie.Need-tell-reads-requires Inv-loop μ-loop
+tell-reads-requires c κs = search needs
+
+tell-writes-requires : tie.Need-tell-writes-requires Inv-loop μ-loop
+tell-writes-requires c κs = search needs
+
+returns : tie.Need-returns Inv-loop μ-loop
+returns c = search needs
+
+pub replayed-spec : {M : Type 1} → statement M
+replayed-spec =
+    tie.close
+    (tie.spec
+    Inv-loop
+    μ-loop
+    start-requires
+    none-requires
+    none-requires-2
+    loop-holds
+    more-requires
+    vector-requires
+    after-requires
+    with-requires
+    with-requires-2
+    loop-less
+    loop-again
+    head-requires
+    tell-reads-requires
+    tell-writes-requires
+    returns)
