@@ -12,21 +12,27 @@ Then
     corners = finder.find(pixels, 1280, 960)         # bytes, row after row, with their sides
     corners = finder.find(image, threshold_rel=0.1)  # other settings than the defaults
     steyrbunk.draw("dawn.png", image, corners)
+    kept = steyrbunk.write_record(corners, corners.width, corners.height)  # bytes, to be read back years later
+    corners, width, height = steyrbunk.read_record(kept)                   # every number as it was
 
-A refusal raises `Refused`, with document 01's number and its words; there is no list then, and none from before.
+A refusal raises `Refused`, with the documents' number and its words; there is no list then, and none from before.
 What is proved is the library behind the call; this file is not, and is tested by running it.
 """
 
+import array
 import ctypes
 import os
 import struct
 import zlib
 from collections import namedtuple
 
-__all__ = ["Corner", "Finder", "Refused", "WORDS", "draw"]
+__all__ = ["Corner", "Finder", "Found", "Record", "Refused", "WORDS", "draw", "read_record", "write_record"]
 
 Corner = namedtuple("Corner", "x y strength")
 Corner.__doc__ = "A corner: its place in input pixels, the middle of a pixel being a whole number, and the map's value there."
+
+Record = namedtuple("Record", "corners width height")
+Record.__doc__ = "What a corner record holds: the corners, and the sides of the working image."
 
 WORDS = {
     0: "accepted, all corners are in the list",
@@ -40,6 +46,11 @@ WORDS = {
     8: "the threshold is not a number from 0 to 1",
     9: "a lent buffer is too short",
     14: "the mode is neither 0 (parabolic) nor 1 (Gaussian)",
+    16: "the record has under 13 bytes or not the length that it states",
+    17: "the record's version is not 1",
+    18: "the record's count and length disagree, or there are over 8,388,608 corners",
+    19: "a number of the list is not finite",
+    20: "the output is too short",
 }
 
 DEFAULTS = {
@@ -55,11 +66,13 @@ DEFAULTS = {
 _FITS = {"parabolic": 0, "gaussian": 1}
 _LARGEST_SIDE = 4096
 _LARGEST_WORKING = 8388608
+_LARGEST_RECORD = 8388608
+_RECORD_HEAD, _RECORD_CORNER = 13, 12
 _FIRST_ROOM = 1024
 
 
 class Refused(ValueError):
-    """A call that was refused: `number` is document 01's, `words` say why."""
+    """A call that was refused: `number` is the documents', `words` say why."""
 
     def __init__(self, number):
         self.number = number
@@ -94,22 +107,51 @@ def _pixels(image, width, height):
     width, height = int(width), int(height)
     if width < 0 or height < 0:
         raise ValueError("a side is below 0")
-    return (view.cast("B") if view.c_contiguous and view.nbytes else memoryview(view.tobytes())), width, height
+    return _flat(view), width, height
+
+
+def _flat(view):
+    """The bytes of a view, end to end, where they stand if that can be."""
+    return view.cast("B") if view.c_contiguous and view.nbytes else memoryview(view.tobytes())
 
 
 def _lent(kind, view):
-    """Bytes as an argument, where they stand if that can be."""
+    """A view as an argument, where it stands if that can be."""
     if view.readonly:
         return (kind * len(view)).from_buffer_copy(view)
     return (kind * len(view)).from_buffer(view)
+
+
+class Found(list):
+    """The corners of an image, a list like any other; `width` and `height` are the working image's sides."""
+
+    def __init__(self, corners, width, height):
+        super().__init__(corners)
+        self.width, self.height = width, height
+
+
+def _corners(numbers):
+    return [Corner(*numbers[at : at + 3]) for at in range(0, len(numbers), 3)]
+
+
+class _Told:
+    """The numbers that the library tells beside its answer: count, width and height."""
+
+    def __init__(self):
+        self.numbers = [ctypes.c_size_t() for _ in range(3)]
+
+    def arguments(self):
+        return [ctypes.byref(number) for number in self.numbers]
+
+    def values(self):
+        return [number.value for number in self.numbers]
 
 
 class Finder:
     """Finds corners in one image after another and keeps its buffers, 25 bytes a working pixel. Not for two threads at a time."""
 
     def __init__(self, library=None):
-        self._find = _library(library).steyrbunk_find
-        self._find.restype = ctypes.c_uint32
+        self._find = _entry(library, "steyrbunk_find")
         self._entries = 0
         self._buffers = self._made(0)
         self._room(_FIRST_ROOM)
@@ -123,7 +165,7 @@ class Finder:
         self._list = (ctypes.c_float * (3 * corners))()
 
     def find(self, image, width=None, height=None, **settings):
-        """All corners of an image in row order. Settings by their names, as in DEFAULTS."""
+        """All corners of an image in row order, as a Found. Settings by their names, as in DEFAULTS."""
         unknown = set(settings) - set(DEFAULTS)
         if unknown:
             raise TypeError(f"no setting is called {', '.join(sorted(unknown))}")
@@ -138,18 +180,18 @@ class Finder:
         numbers += [self._whole(chosen, name) for name in ("nms_radius", "min_cluster_size")]
         lent = _lent(ctypes.c_uint8, pixels)
         while True:
-            count, w, h = ctypes.c_size_t(), ctypes.c_size_t(), ctypes.c_size_t()
+            told = _Told()
             arguments = [lent, ctypes.c_size_t(len(pixels)), ctypes.c_size_t(width), ctypes.c_size_t(height), *numbers]
             for buffer in self._buffers + [self._list]:
                 arguments += [buffer, ctypes.c_size_t(len(buffer))]
-            answer = self._find(*arguments, ctypes.byref(count), ctypes.byref(w), ctypes.byref(h))
+            answer = self._find(*arguments, *told.arguments())
+            count, *sides = told.values()
             if answer == 1:
-                self._room(count.value)
+                self._room(count)
                 continue
             if answer != 0:
                 raise Refused(answer)
-            found = self._list[: 3 * count.value]
-            return [Corner(*found[at : at + 3]) for at in range(0, len(found), 3)]
+            return Found(_corners(self._list[: 3 * count]), *sides)
 
     @staticmethod
     def _whole(settings, name):
@@ -167,6 +209,50 @@ class Finder:
         if working > self._entries:
             self._buffers, self._entries = self._made(0), 0
             self._buffers, self._entries = self._made(working), working
+
+
+def write_record(corners, width, height, library=None):
+    """The record of corners as bytes, with the sides of their working image, as a Found has them. What the finder gave comes back
+    bit for bit; other numbers are rounded to the nearest f32 first."""
+    numbers = array.array("f")
+    for corner in corners:
+        x, y, strength = corner
+        numbers.extend((x, y, strength))
+    if not (0 <= width < 2**16 and 0 <= height < 2**16):
+        raise ValueError(f"a side is a whole number from 0 to 65535, not {width} by {height}")
+    write = _entry(library, "steyrbunk_write_record")
+    record, told = bytearray(_RECORD_HEAD + _RECORD_CORNER * (len(numbers) // 3)), _Told()
+    slices = _slice(ctypes.c_float, memoryview(numbers)) + _slice(ctypes.c_uint8, memoryview(record))
+    answer = write(ctypes.c_uint16(width), ctypes.c_uint16(height), *slices, *told.arguments())
+    if answer != 0:
+        raise Refused(answer)
+    return bytes(record)
+
+
+def read_record(record, library=None):
+    """The corners and sides in the bytes of a record, as a Record."""
+    record = _flat(memoryview(record))
+    # A record that is taken has as many corners as its length says, so the list is never too short.
+    room = min(max(len(record) - _RECORD_HEAD, 0) // _RECORD_CORNER, _LARGEST_RECORD)
+    numbers, told = array.array("f", bytes(4 * 3 * room)), _Told()
+    read = _entry(library, "steyrbunk_read_record")
+    slices = _slice(ctypes.c_uint8, record) + _slice(ctypes.c_float, memoryview(numbers))
+    answer = read(*slices, *told.arguments())
+    if answer != 0:
+        raise Refused(answer)
+    count, width, height = told.values()
+    return Record(_corners(numbers[: 3 * count]), width, height)
+
+
+def _entry(library, name):
+    entry = getattr(_library(library), name)
+    entry.restype = ctypes.c_uint32
+    return entry
+
+
+def _slice(kind, view):
+    """A view and its length as two arguments."""
+    return [_lent(kind, view), ctypes.c_size_t(len(view))]
 
 
 def draw(path, image, corners, width=None, height=None):

@@ -1,9 +1,10 @@
-"""Runs steyrbunk.py: document 01's frame, a board against the fitters' command, every refusal, other buffers, drawings.
+"""Runs steyrbunk.py: document 01's frame, a board against the fitters' command, every refusal, other buffers, records, drawings.
 
 usage: test_steyrbunk.py COMMAND FOLDER    the built command `steyrbunk`, and an empty folder
 """
 
 import array
+import copy
 import json
 import mmap
 import os
@@ -28,27 +29,32 @@ def check(was, expected):
         sys.exit(f"check {CHECKS}: {was!r} is not {expected!r}")
 
 
-def refused(number, *arguments, **settings):
+def refused(number, call, *arguments, **settings):
     try:
-        found = finder.find(*arguments, **settings)
+        given = call(*arguments, **settings)
     except steyrbunk.Refused as error:
-        check((error.number, error.words in str(error), error.words != ""), (number, True, True))
+        check((error.number, error.words, error.words in str(error)), (number, steyrbunk.WORDS[number], True))
     else:
-        check(found, f"refused {number}")
+        check(given, f"refused {number}")
 
 
-def wrong(kind, *arguments, **settings):
+def wrong(kind, call, *arguments, **settings):
     try:
-        found = finder.find(*arguments, **settings)
+        given = call(*arguments, **settings)
     except kind as error:
         check(isinstance(error, steyrbunk.Refused), False)
     else:
-        check(found, kind)
+        check(given, kind)
 
 
 finder = steyrbunk.Finder()
 corner = [steyrbunk.Corner(3.0, 3.0, 160000.0)]
-check(finder.find(FRAME, 7, 7, **SETTINGS), corner)
+found = finder.find(FRAME, 7, 7, **SETTINGS)
+check(found, corner)
+check((isinstance(found, list), found.width, found.height), (True, 7, 7))
+twice = finder.find(FRAME, 7, 7, **{**SETTINGS, "image_upsample": 2})
+check((twice.width, twice.height, found.width, found.height), (14, 14, 7, 7))
+check((copy.deepcopy(found), copy.copy(found).width, found + [], json.dumps(found)), (corner, 7, corner, "[[3.0, 3.0, 160000.0]]"))
 
 # Everything with the buffer protocol, where it stands or copied.
 mapped = mmap.mmap(-1, len(FRAME))
@@ -92,20 +98,73 @@ for number, arguments, settings in (
     (8, (FRAME, 7, 7), {"threshold_rel": -0.5}),
     (14, (FRAME, 7, 7), {"peak_fit": 2}),
 ):
-    refused(number, *arguments, **settings)
+    refused(number, finder.find, *arguments, **settings)
     check(finder.find(FRAME, 7, 7, **SETTINGS), corner)
 
 # What no call can be made of.
-wrong(TypeError, FRAME)
-wrong(TypeError, array.array("H", [1, 2, 3, 4]), 2, 2)
-wrong(TypeError, memoryview(bytes(27)).cast("B", (3, 3, 3)))
-wrong(TypeError, FRAME, 7, 7, thresh=1)
-wrong(TypeError, [1, 2, 3], 1, 3)
-wrong(ValueError, square, 7, 6)
-wrong(ValueError, FRAME, -7, -7)
-wrong(ValueError, FRAME, 7, 7, ray_radius=-1)
-wrong(ValueError, FRAME, 7, 7, ray_radius=1.5)
-wrong(ValueError, FRAME, 7, 7, peak_fit="cubic")
+wrong(TypeError, finder.find, FRAME)
+wrong(TypeError, finder.find, array.array("H", [1, 2, 3, 4]), 2, 2)
+wrong(TypeError, finder.find, memoryview(bytes(27)).cast("B", (3, 3, 3)))
+wrong(TypeError, finder.find, FRAME, 7, 7, thresh=1)
+wrong(TypeError, finder.find, [1, 2, 3], 1, 3)
+wrong(ValueError, finder.find, square, 7, 6)
+wrong(ValueError, finder.find, FRAME, -7, -7)
+wrong(ValueError, finder.find, FRAME, 7, 7, ray_radius=-1)
+wrong(ValueError, finder.find, FRAME, 7, 7, ray_radius=1.5)
+wrong(ValueError, finder.find, FRAME, 7, 7, peak_fit="cubic")
+
+# Records: one written out, every bit back, and the same bytes as the command's, both ways.
+check(steyrbunk.write_record(found, found.width, found.height), bytes.fromhex("01 00000014 0007 0007 00000001 40400000 40400000 481C4000"))
+check(steyrbunk.write_record([], 258, 7), bytes.fromhex("01 00000008 0102 0007 00000000"))
+check(steyrbunk.read_record(bytes.fromhex("01 00000008 0102 0007 00000000")), ([], 258, 7))
+edges = [0x00000000, 0x80000000, 0x00000001, 0x80000001, 0x007FFFFF, 0x00800000, 0x7F7FFFFF, 0xFF7FFFFF, 0x3F800000]
+sound = struct.pack(">BIHHI9I", 1, 44, 0xFFFF, 1, 3, *edges)
+corners, wide, high = steyrbunk.read_record(sound)
+check((wide, high, len(corners)), (0xFFFF, 1, 3))
+check(struct.pack(">9f", *(number for corner in corners for number in corner)), sound[13:])
+check(steyrbunk.write_record(corners, wide, high), sound)
+check(steyrbunk.write_record(iter(corners), wide, high), sound)
+for given in (bytearray(sound), memoryview(sound), array.array("B", sound), memoryview(sound + sound)[: len(sound)]):
+    check(steyrbunk.write_record(*steyrbunk.read_record(given)), sound)
+board_found = finder.find(board, width, height)
+kept = os.path.join(FOLDER, "board.record")
+with open(kept, "wb") as file:
+    file.write(subprocess.run([COMMAND, "--format", "record", path], capture_output=True, check=True).stdout)
+with open(kept, "rb") as file:
+    check(steyrbunk.write_record(board_found, board_found.width, board_found.height), file.read())
+    file.seek(0)
+    check(steyrbunk.read_record(file.read()), (board_found, 2 * width, 2 * height))
+printed = [subprocess.run([COMMAND, *words], capture_output=True, check=True).stdout for words in ([path], ["read", kept])]
+check(printed[0], printed[1])
+
+# Every refusal of a record, and that no list comes of it. Every bit turned: what is taken is another list, sizes or both.
+refused(16, steyrbunk.read_record, b"")
+refused(16, steyrbunk.read_record, sound[:12])
+refused(16, steyrbunk.read_record, sound[:-1])
+refused(16, steyrbunk.read_record, sound + b"\0")
+refused(17, steyrbunk.read_record, b"\2" + sound[1:])
+refused(18, steyrbunk.read_record, sound[:12] + b"\4" + sound[13:])
+refused(18, steyrbunk.read_record, sound[:9] + b"\x40\0\0\3" + sound[13:])
+refused(18, steyrbunk.read_record, struct.pack(">BIHHI", 1, 8 + 12 * 8388609, 1, 1, 8388609) + bytes(12 * 8388609))
+refused(19, steyrbunk.read_record, sound[:13] + b"\x7f\x80\0\0" + sound[17:])
+for number in (float("nan"), float("inf"), float("-inf"), 1e300):
+    refused(19, steyrbunk.write_record, [(1, 2, number)], 7, 7)
+for at in range(8 * len(sound)):
+    damaged = bytearray(sound)
+    damaged[at // 8] ^= 1 << at % 8
+    try:
+        check(steyrbunk.write_record(*steyrbunk.read_record(damaged)), bytes(damaged))
+    except steyrbunk.Refused as error:
+        check(error.number in (16, 17, 18, 19), True)
+wrong(ValueError, steyrbunk.write_record, [(1, 2)], 7, 7)
+wrong(ValueError, steyrbunk.write_record, [(1, 2, 3, 4)], 7, 7)
+wrong(ValueError, steyrbunk.write_record, [], 65536, 7)
+wrong(ValueError, steyrbunk.write_record, [], 7, -1)
+wrong(TypeError, steyrbunk.write_record, [], 7, 1.5)
+wrong(TypeError, steyrbunk.write_record, [1, 2, 3], 7, 7)
+wrong(TypeError, steyrbunk.write_record, [("1", "2", "3")], 7, 7)
+wrong(TypeError, steyrbunk.read_record, "text")
+wrong(TypeError, steyrbunk.read_record, 13)
 
 # A drawing: the picture's sides, its pixels, a mark in the middle of the corner's pixel.
 drawing = os.path.join(FOLDER, "frame.png")

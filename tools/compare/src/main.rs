@@ -135,7 +135,7 @@ fn hold(pair: &mut Pair, mut job: Job, keep: Option<&Path>) -> Line {
 
 /// Workers take shares of the frames; what they find is told in the frames' order.
 fn run(options: &Options, source: Source) -> Summary {
-    let mut progress = Progress::new(source.total());
+    let mut progress = Progress::new(source.total(), "frames");
     let source = Mutex::new((0u64, source));
     let (sender, receiver) = mpsc::sync_channel(64);
     let mut summary = Summary::default();

@@ -67,7 +67,7 @@ impl Job {
         match self {
             Job::Made { seed, index, sizes } => Ok(made(*seed, *index, *sizes).frame.bytes()),
             Job::Damaged { seed, index } => Ok(damaged(*seed, *index)),
-            Job::File(path, named) => match console::read(path) {
+            Job::File(path, named) => match console::read(path, LONGEST) {
                 Ok(Some(file)) => framed(path, file, named),
                 Ok(None) => Err(format!("over {LONGEST} bytes, longer than any frame")),
                 Err(error) => Err(error.to_string()),

@@ -7,26 +7,26 @@ use std::path::{Path, PathBuf};
 /// Bytes of the longest file that can hold a frame: the greatest sides and an opening, comments and all.
 pub const LONGEST: u64 = (limits::SIDE * limits::SIDE) as u64 + 65_536;
 
-/// The whole file, or nothing if it is longer than a frame can be; at most one byte more than that is read.
+/// The whole file, or nothing if it is longer than that; at most one byte more is read.
 /// Only a regular file is read, so that no pipe or device can keep the caller waiting.
-pub fn read(path: &Path) -> io::Result<Option<Vec<u8>>> {
+pub fn read(path: &Path, longest: u64) -> io::Result<Option<Vec<u8>>> {
     let file = opened(path)?;
     if !file.metadata()?.is_file() {
         let text = "not a regular file (a folder, pipe, socket or device)";
         return Err(io::Error::new(io::ErrorKind::InvalidInput, text));
     }
-    limited(file)
+    limited(file, longest)
 }
 
 /// The same of standard input, whatever that is.
-pub fn read_input() -> io::Result<Option<Vec<u8>>> {
-    limited(io::stdin())
+pub fn read_input(longest: u64) -> io::Result<Option<Vec<u8>>> {
+    limited(io::stdin(), longest)
 }
 
-fn limited(input: impl Read) -> io::Result<Option<Vec<u8>>> {
+fn limited(input: impl Read, longest: u64) -> io::Result<Option<Vec<u8>>> {
     let mut file = Vec::new();
-    input.take(LONGEST + 1).read_to_end(&mut file)?;
-    Ok((file.len() as u64 <= LONGEST).then_some(file))
+    input.take(longest + 1).read_to_end(&mut file)?;
+    Ok((file.len() as u64 <= longest).then_some(file))
 }
 
 /// Opening a pipe waits for its other end unless it is asked not to.

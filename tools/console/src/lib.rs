@@ -8,4 +8,4 @@ mod words;
 pub use files::{inside, read, read_input, Inside, LONGEST};
 pub use names::{json, shell, shown};
 pub use progress::Progress;
-pub use words::{run, say, Usage, Word, Words};
+pub use words::{no_terminal, put, run, say, Usage, Word, Words};

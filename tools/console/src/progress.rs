@@ -6,15 +6,18 @@ use std::time::{Duration, Instant};
 /// Rewrites one line on a terminal; elsewhere a line goes out now and then.
 pub struct Progress {
     total: Option<u64>,
+    /// What is counted.
+    things: &'static str,
     started: Instant,
     shown: Option<Instant>,
     terminal: bool,
 }
 
 impl Progress {
-    pub fn new(total: Option<u64>) -> Progress {
+    pub fn new(total: Option<u64>, things: &'static str) -> Progress {
         Progress {
             total,
+            things,
             started: Instant::now(),
             shown: None,
             terminal: io::stderr().is_terminal(),
@@ -41,7 +44,8 @@ impl Progress {
             let seconds = total.saturating_sub(done) as f64 / rate.max(1e-9);
             format!(", {} left", duration(seconds))
         });
-        let line = format!("{done}{of} frames, {rate:.0} a second{left}{note}");
+        let things = self.things;
+        let line = format!("{done}{of} {things}, {rate:.0} a second{left}{note}");
         if self.terminal {
             eprint!("\r{line}\x1b[K");
             let _ = io::stderr().flush();

@@ -1,7 +1,7 @@
 //! The words of a call: flags, their values, and paths.
 
 use std::ffi::OsString;
-use std::io::{self, Write};
+use std::io::{self, IsTerminal, Write};
 use std::path::PathBuf;
 use std::process::{self, ExitCode};
 use std::str::FromStr;
@@ -88,15 +88,30 @@ impl Words {
     }
 }
 
-/// Writes to standard output; where that cannot be the command ends, with a word unless it is only that nobody reads any more.
+/// Writes text to standard output.
 pub fn say(text: &str) {
+    put(text.as_bytes());
+}
+
+/// Writes to standard output; where that cannot be the command ends, with a word unless it is only that nobody reads any more.
+pub fn put(bytes: &[u8]) {
     let mut out = io::stdout().lock();
-    if let Err(error) = out.write_all(text.as_bytes()).and_then(|()| out.flush()) {
+    if let Err(error) = out.write_all(bytes).and_then(|()| out.flush()) {
         if error.kind() != io::ErrorKind::BrokenPipe {
             eprintln!("standard output: {error}");
         }
         process::exit(1);
     }
+}
+
+/// Bytes that are no text are not for a terminal.
+pub fn no_terminal(what: &str, file: &str) -> Result<(), Usage> {
+    if io::stdout().is_terminal() {
+        return Usage::wrong(format!(
+            "{what} is no text: send it to a file, as in > {file}"
+        ));
+    }
+    Ok(())
 }
 
 /// Runs a command: help goes to standard output, wrong words leave with 2, else the command's own status.

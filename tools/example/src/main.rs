@@ -1,6 +1,13 @@
-//! Finds the corners of a board that the example draws itself, with the default settings.
+//! Finds the corners of a board that the example draws itself, with the default settings, keeps them as a record and reads it back.
 
-use steyrbunk::{Finder, Image, Settings};
+use steyrbunk::{record, Finder, Found, Image, Refusal, Settings};
+
+/// What would be kept in a file, and read again years later.
+fn kept(found: &Found) -> Result<Found, Refusal> {
+    let bytes = record::bytes(found)?;
+    println!("{} bytes to be kept", bytes.len());
+    record::parse(&bytes)
+}
 
 fn main() {
     let (width, height) = (64, 48);
@@ -16,7 +23,8 @@ fn main() {
         width,
         height,
     };
-    match finder.find(image, &Settings::default()) {
+    let found = finder.find(image, &Settings::default());
+    match found.and_then(|found| kept(&found)) {
         Ok(found) => {
             for corner in &found.corners {
                 println!("{} {} {}", corner.x, corner.y, corner.strength);

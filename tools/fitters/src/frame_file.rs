@@ -1,9 +1,9 @@
 //! The frame file of a picture with settings, so that every program reads the very same bytes.
 
-use std::io::{self, IsTerminal, Write};
+use std::io::{self, Write};
 use std::process::ExitCode;
 
-use console::{shown, Usage};
+use console::{no_terminal, shown, Usage, LONGEST};
 use frames::{Kind, Problem};
 use steyrbunk::frame::{bytes, Frame};
 
@@ -15,9 +15,7 @@ const PROGRAM_BYTES: usize = 2_324;
 const PROGRAM_PIXELS: usize = 2_304;
 
 pub fn write(call: &FrameCall) -> Result<ExitCode, Usage> {
-    if io::stdout().is_terminal() {
-        return Usage::wrong("a frame file is no text: send it to a file, as in > dawn.frame");
-    }
+    no_terminal("a frame file", "dawn.frame")?;
     let made = made(call).and_then(|file| {
         let mut out = io::stdout().lock();
         out.write_all(&file).and_then(|()| out.flush())?;
@@ -35,9 +33,9 @@ pub fn write(call: &FrameCall) -> Result<ExitCode, Usage> {
 fn made(call: &FrameCall) -> Result<Vec<u8>, Problem> {
     let too_long = || Problem::Damaged("longer than any picture that is taken".to_string());
     let file = if call.picture.as_os_str() == INPUT {
-        console::read_input()?.ok_or_else(too_long)?
+        console::read_input(LONGEST)?.ok_or_else(too_long)?
     } else {
-        console::read(&call.picture)?.ok_or_else(too_long)?
+        console::read(&call.picture, LONGEST)?.ok_or_else(too_long)?
     };
     if frames::kind(&file) == Kind::Frame {
         return Err(Problem::Damaged("is a frame file already".to_string()));

@@ -7,14 +7,14 @@ use std::{fs, io};
 use console::{shown, Usage};
 
 use crate::options::Place;
+use crate::site;
+use crate::source::Source;
 
-/// Endings of the files that are looked for in folders.
-const ENDINGS: [&str; 2] = ["pgm", "frame"];
 /// The path that means standard input, and what its results are called.
 pub const INPUT: &str = "-";
 const INPUT_NAME: &str = "stdin";
 
-/// A frame that is still to be read.
+/// A frame, or the record of one, that is still to be read.
 pub struct Frame {
     /// Nothing for standard input.
     pub path: Option<PathBuf>,
@@ -53,7 +53,11 @@ pub struct Group {
 }
 
 /// The frames of a call by the folder of their results. Only folders are read.
-pub fn gather(paths: &[PathBuf], place: Option<&Place>) -> Result<Vec<Group>, Usage> {
+pub fn gather(
+    source: Source,
+    paths: &[PathBuf],
+    place: Option<&Place>,
+) -> Result<Vec<Group>, Usage> {
     let mut groups: Vec<Group> = Vec::new();
     if !matches!(place, Some(Place::Beside)) {
         let folder = match place {
@@ -66,7 +70,7 @@ pub fn gather(paths: &[PathBuf], place: Option<&Place>) -> Result<Vec<Group>, Us
         });
     }
     for path in paths {
-        let found = look(path, paths.len() > 1)?;
+        let found = look(source, path, paths.len() > 1);
         match place {
             Some(Place::Beside) => beside(&mut groups, path, found)?,
             _ => groups[0].join(found),
@@ -84,6 +88,12 @@ impl Group {
         self.problems.extend(other.problems);
     }
 
+    /// The files that are to be read, as the system knows them.
+    pub fn sources(&self) -> impl Iterator<Item = PathBuf> + '_ {
+        let paths = self.frames.iter().filter_map(|frame| frame.path.as_ref());
+        paths.filter_map(|path| fs::canonicalize(path).ok())
+    }
+
     /// By name; a frame that was named twice is taken once where it has results.
     fn order(&mut self) {
         self.frames.sort_by(|a, b| a.name.cmp(&b.name));
@@ -95,29 +105,30 @@ impl Group {
 }
 
 /// A path as it was named: standard input, a file, or a folder with all that is in it and below.
-fn look(path: &Path, several: bool) -> Result<Group, Usage> {
+fn look(source: Source, path: &Path, several: bool) -> Group {
     if path == Path::new(INPUT) {
-        return Ok(Group {
+        return Group {
             frames: vec![Frame {
                 path: None,
                 shown: "standard input".to_string(),
                 name: INPUT_NAME.into(),
             }],
             ..Group::default()
-        });
+        };
     }
     if !fs::metadata(path).is_ok_and(|data| data.is_dir()) {
         let name = path.file_name().map_or_else(|| path.into(), PathBuf::from);
-        return Ok(Group {
+        return Group {
             frames: vec![Frame {
                 path: Some(path.into()),
                 shown: shown(path),
                 name,
             }],
+            problems: unfinished(source, &[folder_of(path)]),
             ..Group::default()
-        });
+        };
     }
-    let found = console::inside(path, &ENDINGS);
+    let found = console::inside(path, source.endings());
     // Of several folders each has its own name in front, so that two cameras never share one.
     let front = if several {
         own_name(path)
@@ -135,9 +146,10 @@ fn look(path: &Path, several: bool) -> Result<Group, Usage> {
         .map(|(path, error)| format!("{}: {error}", shown(path)))
         .collect();
     if found.files.is_empty() && problems.is_empty() {
-        problems.push(format!("{}: no .pgm or .frame file in it", shown(path)));
+        problems.push(format!("{}: {}", shown(path), source.none()));
     }
-    Ok(Group {
+    problems.extend(unfinished(source, &found.folders));
+    Group {
         folder: None,
         below: found
             .folders
@@ -147,7 +159,28 @@ fn look(path: &Path, several: bool) -> Result<Group, Usage> {
         named: absolute(path).into_iter().collect(),
         frames: found.files.into_iter().map(frame).collect(),
         problems,
-    })
+    }
+}
+
+/// What a run that is not over wrote does not count: of records that is told, since they may lie there under their own names.
+fn unfinished(source: Source, folders: &[PathBuf]) -> Vec<String> {
+    let told = |folder: &PathBuf| {
+        let text = "a run.plan and no run.json: a run there is not over or was cut off, and no record of it counts";
+        format!("{}: {text}", shown(folder))
+    };
+    let folders = folders.iter().filter(|folder| site::is_unfinished(folder));
+    match source {
+        Source::Frames => Vec::new(),
+        Source::Records => folders.map(told).collect(),
+    }
+}
+
+/// The folder that a file is in.
+fn folder_of(file: &Path) -> PathBuf {
+    let parent = file
+        .parent()
+        .filter(|parent| !parent.as_os_str().is_empty());
+    parent.unwrap_or(Path::new(".")).to_path_buf()
 }
 
 /// The last part of a folder's whole path.
@@ -162,10 +195,7 @@ fn beside(groups: &mut Vec<Group>, path: &Path, mut found: Group) -> Result<(), 
         return Usage::wrong("standard input has no place beside it; try --out");
     }
     let folder = if found.named.is_empty() {
-        let parent = path
-            .parent()
-            .filter(|parent| !parent.as_os_str().is_empty());
-        parent.unwrap_or(Path::new(".")).to_path_buf()
+        folder_of(path)
     } else {
         // Names below the folder itself: it has its own manifest.
         for frame in &mut found.frames {

@@ -10,20 +10,23 @@ mod output;
 mod png;
 mod record;
 mod site;
+mod source;
 mod work;
 
+use std::collections::BTreeSet;
 use std::env;
 use std::io::ErrorKind;
 use std::path::{Path, PathBuf};
 use std::process::ExitCode;
 use std::time::{Duration, SystemTime};
 
-use console::{say, shown, Progress, Usage};
+use console::{no_terminal, put, say, shown, Progress, Usage};
 use gather::{Frame, Group};
 use options::{Call, Options, Place};
 use output::Format;
 use record::{End, Record};
 use site::{path_of, Site};
+use source::Source;
 use steyrbunk::Settings;
 use work::{Done, Planned};
 
@@ -70,7 +73,7 @@ impl Run<'_> {
             if self.several && self.options.format == Format::List {
                 say(&format!("# {}\n", frame.shown));
             }
-            say(&done.text);
+            put(&done.text);
         }
         if self.several && !self.options.quiet {
             let note = format!(", {} without a list", self.failed);
@@ -207,25 +210,37 @@ impl Run<'_> {
             .iter()
             .flat_map(|record| record.results.clone())
             .collect();
-        let Options { named, replace, .. } = self.options;
-        let settings = named.over(Settings::default());
-        let records: Vec<&Record> = records.iter().collect();
-        let text = record::manifest(self.started, &settings, *replace, &group.problems, &records);
+        let Options {
+            source,
+            named,
+            replace,
+            ..
+        } = self.options;
+        // A record does not know with which settings its frame was searched.
+        let settings = match source {
+            Source::Frames => Some(named.over(Settings::default())),
+            Source::Records => None,
+        };
+        let (problems, records) = (&group.problems, records.iter().collect::<Vec<_>>());
+        let text = record::manifest(self.started, settings, *replace, problems, &records);
         site.finish(&text, &results)
     }
 }
 
-fn find(options: &Options) -> Result<ExitCode, Usage> {
+fn list(options: &Options) -> Result<ExitCode, Usage> {
     let started = SystemTime::now();
     if let Some(Place::Folder(folder)) = &options.place {
         gather::make(folder).or_else(|error| Usage::wrong(error.to_string()))?;
     }
-    let groups = gather::gather(&options.paths, options.place.as_ref())?;
+    let groups = gather::gather(options.source, &options.paths, options.place.as_ref())?;
     let total = groups.iter().map(|group| group.frames.len() as u64).sum();
+    if options.format == Format::Record && options.place.is_none() {
+        alone(total)?;
+    }
     let mut run = Run {
         options,
         started,
-        progress: Progress::new(Some(total)),
+        progress: Progress::new(Some(total), options.source.things()),
         several: total > 1,
         frames: 0,
         failed: 0,
@@ -233,12 +248,12 @@ fn find(options: &Options) -> Result<ExitCode, Usage> {
         noted: false,
     };
     // The runs before are taken away everywhere before any frame is read. A folder that cannot be had stops none of the others.
-    let mut taken = Vec::new();
+    let (mut taken, sources) = (Vec::new(), sources(options.source, &groups));
     for group in &groups {
         match group
             .folder
             .as_deref()
-            .map(|folder| Site::take(folder, &group.below))
+            .map(|folder| Site::take(folder, &group.below, &sources))
         {
             Some(Err(error)) => run.fail(&error.to_string()),
             Some(Ok(site)) => taken.push((group, Some(site))),
@@ -260,9 +275,26 @@ fn find(options: &Options) -> Result<ExitCode, Usage> {
     }
     run.progress.clear();
     if run.several && !options.quiet {
-        eprintln!("{} frames, {} without a list", run.frames, run.failed);
+        let things = options.source.things();
+        eprintln!("{} {things}, {} without a list", run.frames, run.failed);
     }
     Ok(ExitCode::from(u8::from(run.failed + run.problems > 0)))
+}
+
+/// Records are no text, and nothing tells where one of them ends.
+fn alone(total: u64) -> Result<(), Usage> {
+    if total > 1 {
+        return Usage::wrong("several records do not go to standard output: try --out or --beside");
+    }
+    no_terminal("a record", "dawn.record")
+}
+
+/// The files of a call that may be results of an earlier run: records, and never frames.
+fn sources(source: Source, groups: &[Group]) -> BTreeSet<PathBuf> {
+    match source {
+        Source::Frames => BTreeSet::new(),
+        Source::Records => groups.iter().flat_map(Group::sources).collect(),
+    }
 }
 
 fn main() -> ExitCode {
@@ -274,7 +306,7 @@ fn main() -> ExitCode {
         });
     console::run(&name, &options::help(), |words| {
         match options::call(words)? {
-            Call::Find(options) => find(&options),
+            Call::List(options) => list(&options),
             Call::Frame(call) => frame_file::write(&call),
             Call::Version => {
                 say(&format!("steyrbunk {}\n", env!("CARGO_PKG_VERSION")));

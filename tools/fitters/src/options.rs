@@ -7,6 +7,7 @@ use console::{Usage, Word, Words};
 use frames::{settings_help, Named};
 
 use crate::output::Format;
+use crate::source::Source;
 
 /// The help, with the settings that all commands share.
 pub fn help() -> String {
@@ -17,20 +18,23 @@ const HELP: &str = "\
 steyrbunk finds the corners of chessboard panels in camera frames.
 
   steyrbunk [OPTIONS] PATH...
+  steyrbunk read [OPTIONS] PATH...             the lists of records that were kept
   steyrbunk frame [SETTINGS] PICTURE > FILE    the frame file of a picture
 
 A PATH is an 8-bit PGM picture (P5), a frame file, or a folder; of a folder, every .pgm and .frame
 file in it and below it is taken. - is standard input. Lists go to standard output, messages to
-standard error.
+standard error. With read, a PATH is a record or a folder, of which every .record file is taken.
 
 Output
   --format list    sizes and count, then x, y and strength of each corner as bits in hex (default);
                    with several files, a line '# NAME' goes before each list
   --format csv     file, corner, x, y, strength; one line a corner
   --format json    one object a frame, each on a line of its own
-  --out FOLDER     writes the results into the folder, one file a frame: NAME.corners, NAME.csv or
-                   NAME.json, where NAME is the frame's whole file name, in the same subfolders as
-                   the frames; of several folders each has its own name in front
+  --format record  bytes to be kept: sizes, count and the corners bit for bit; of several frames
+                   only with --out or --beside
+  --out FOLDER     writes the results into the folder, one file a frame: NAME.corners, NAME.csv,
+                   NAME.json or NAME.record, where NAME is the frame's whole file name, in the same
+                   subfolders as the frames; of several folders each has its own name in front
   --beside         writes them beside each frame instead
   --draw svg       draws the corners over the picture too, as NAME.svg; needs --out or --beside
   --draw png       the same as NAME.png
@@ -40,6 +44,12 @@ Output
 
 SETTINGS
   --override                 puts the settings named in the call over those of frame files
+
+steyrbunk read prints the lists of records as those of their frames, in every format and by the same
+rules, but for what a record does not have: the frame's name (the record's stands in its place), the
+settings, and the picture, so that --draw and settings are wrong words there. A damaged record is
+refused, by a number from 16 to 19, and has no list. A run takes away the results of the run before
+in its folder: each dawn that is to be kept needs a folder of its own, and read writes to another.
 
 Places are input pixels; the middle of the upper left pixel is 0, 0. A name with control characters
 or bytes that are no text is shown with \\xNN in their place.
@@ -59,7 +69,8 @@ error; 2 if the words of the call are wrong.
 
 /// What is asked for.
 pub enum Call {
-    Find(Options),
+    /// The lists of frames, or of records.
+    List(Options),
     Frame(FrameCall),
     Version,
 }
@@ -87,6 +98,7 @@ pub enum Place {
 }
 
 pub struct Options {
+    pub source: Source,
     pub paths: Vec<PathBuf>,
     pub format: Format,
     pub place: Option<Place>,
@@ -105,6 +117,7 @@ pub struct FrameCall {
 
 pub fn call(mut words: Words) -> Result<Call, Usage> {
     let mut options = Options {
+        source: Source::Frames,
         paths: Vec::new(),
         format: Format::List,
         place: None,
@@ -118,19 +131,20 @@ pub fn call(mut words: Words) -> Result<Call, Usage> {
     while let Some(word) = words.word()? {
         match word {
             Word::Path(path) if first && path.as_os_str() == "frame" => return frame(words),
+            Word::Path(path) if first && path.as_os_str() == "read" => {
+                options.source = Source::Records;
+            }
             Word::Path(path) => options.paths.push(path),
             Word::Flag(flag) if flag == "--version" => return Ok(Call::Version),
             Word::Flag(flag) => options.flag(&flag, &mut words)?,
         }
         first = false;
     }
-    if options.paths.is_empty() {
-        return Usage::wrong("no picture, frame file or folder is named");
+    match options.source {
+        Source::Frames => options.suit_frames()?,
+        Source::Records => options.suit_records()?,
     }
-    if options.place.is_none() && !options.drawings.is_empty() {
-        return Usage::wrong("--draw needs --out or --beside");
-    }
-    Ok(Call::Find(options))
+    Ok(Call::List(options))
 }
 
 fn frame(mut words: Words) -> Result<Call, Usage> {
@@ -152,10 +166,36 @@ fn frame(mut words: Words) -> Result<Call, Usage> {
 }
 
 impl Options {
+    fn suit_frames(&self) -> Result<(), Usage> {
+        if self.paths.is_empty() {
+            return Usage::wrong("no picture, frame file or folder is named");
+        }
+        if self.place.is_none() && !self.drawings.is_empty() {
+            return Usage::wrong("--draw needs --out or --beside");
+        }
+        Ok(())
+    }
+
+    /// A record has neither a picture nor settings.
+    fn suit_records(&self) -> Result<(), Usage> {
+        if self.paths.is_empty() {
+            return Usage::wrong(
+                "read wants a record or a folder; the folder of that name is ./read",
+            );
+        }
+        if !self.drawings.is_empty() {
+            return Usage::wrong("--draw does not go with read: a record has no picture");
+        }
+        if self.named != Named::default() || self.replace {
+            return Usage::wrong("settings do not go with read: the corners are found already");
+        }
+        Ok(())
+    }
+
     fn flag(&mut self, flag: &str, words: &mut Words) -> Result<(), Usage> {
         match flag {
             "--format" => {
-                let name: String = words.value(flag, "list, csv or json")?;
+                let name: String = words.value(flag, "list, csv, json or record")?;
                 let format = Format::from_name(&name);
                 self.format =
                     format.ok_or_else(|| Usage::Wrong(format!("no format is called {name}")))?;

@@ -1,8 +1,8 @@
-//! Lists as text: as document 01 prints them, as CSV, as JSON.
+//! Lists as they are handed on: as document 01 prints them, as CSV, as JSON, as document 02's records.
 
 use std::fmt::Write;
 
-use steyrbunk::{printed, Corner, Found};
+use steyrbunk::{printed, record, Corner, Found, Refusal};
 
 use console::json as quoted;
 use frames::Problem;
@@ -12,6 +12,7 @@ pub enum Format {
     List,
     Csv,
     Json,
+    Record,
 }
 
 pub const CSV_HEAD: &str = "file,corner,x,y,strength\n";
@@ -22,6 +23,7 @@ impl Format {
             "list" => Some(Format::List),
             "csv" => Some(Format::Csv),
             "json" => Some(Format::Json),
+            "record" => Some(Format::Record),
             _ => None,
         }
     }
@@ -32,6 +34,7 @@ impl Format {
             Format::List => "corners",
             Format::Csv => "csv",
             Format::Json => "json",
+            Format::Record => record::ENDING,
         }
     }
 
@@ -44,15 +47,17 @@ impl Format {
     }
 
     /// The list of one frame.
-    pub fn list(self, name: &str, found: &Found) -> String {
-        match self {
+    pub fn list(self, name: &str, found: &Found) -> Result<Vec<u8>, Refusal> {
+        let text = match self {
             Format::List => printed(&Ok(found.clone())),
             Format::Csv => csv(name, &found.corners),
             Format::Json => json(name, found),
-        }
+            Format::Record => return record::bytes(found),
+        };
+        Ok(text.into_bytes())
     }
 
-    /// What stands in the place of a list that there is not; CSV has no line for it.
+    /// What stands in the place of a list that there is not; neither CSV nor a record has a word for it.
     pub fn problem(self, name: &str, problem: &Problem) -> String {
         let file = quoted(name.as_bytes());
         match (self, problem.refusal()) {

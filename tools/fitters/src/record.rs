@@ -89,7 +89,7 @@ impl Record {
 /// The manifest of a run: a line a frame.
 pub fn manifest(
     started: SystemTime,
-    named: &Settings,
+    named: Option<Settings>,
     replaced: bool,
     problems: &[String],
     records: &[&Record],
@@ -101,7 +101,7 @@ pub fn manifest(
         json(env!("CARGO_PKG_VERSION").as_bytes()),
         json(instant(started).as_bytes()),
         json(instant(SystemTime::now()).as_bytes()),
-        settings(named),
+        named.map_or("null".to_string(), |named| settings(&named)),
         problems.join(","),
         frames.join(",\n")
     )

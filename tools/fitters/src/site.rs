@@ -6,6 +6,7 @@
 //! - Results have a name of their own only at the end of a run; until then they end in `.part`. An old result becomes such a part, by rename,
 //!   and is written over: that takes its name away at once, where removing it can take milliseconds (a disk that forgets blocks as they are freed).
 //! - Nothing else is ever removed or written over.
+//! - Where a run is to read what the run before wrote there, nothing is changed at all: it would take its own sources away.
 
 use std::collections::BTreeSet;
 use std::fs::{self, File, OpenOptions, TryLockError};
@@ -41,8 +42,9 @@ pub struct Site {
 }
 
 impl Site {
-    /// Takes a folder up and clears away the run before, in it and in the folders below it that are named too.
-    pub fn take(folder: &Path, below: &[PathBuf]) -> io::Result<Site> {
+    /// Takes a folder up and clears away the run before, in it and in the folders below it that are named too, unless that
+    /// would take away one of these sources.
+    pub fn take(folder: &Path, below: &[PathBuf], sources: &BTreeSet<PathBuf>) -> io::Result<Site> {
         let lock = File::open(folder).map_err(|error| named(folder, error))?;
         match lock.try_lock() {
             Ok(()) => {}
@@ -59,9 +61,9 @@ impl Site {
             aside: BTreeSet::new(),
             plans: Vec::new(),
         };
-        for folder in std::iter::once(folder).chain(below.iter().map(PathBuf::as_path)) {
-            site.clear(folder)?;
-        }
+        let folders = || std::iter::once(folder).chain(below.iter().map(PathBuf::as_path));
+        folders().try_for_each(|folder| spare(folder, sources))?;
+        folders().try_for_each(|folder| site.clear(folder))?;
         Ok(site)
     }
 
@@ -92,11 +94,7 @@ impl Site {
             .strip_prefix(&self.folder)
             .unwrap_or(Path::new(""))
             .to_path_buf();
-        let frames = json.get("frames").map_or(&[][..], Json::list);
-        let listed = frames
-            .iter()
-            .flat_map(|frame| frame.get("results").map_or(&[][..], Json::list));
-        for result in listed.chain(json.get("aside").map_or(&[][..], Json::list)) {
+        for result in results(json) {
             let result = result.text().and_then(inner).ok_or_else(|| {
                 let text = "names a result that is not inside its folder, which stays";
                 named(plan, io::Error::new(ErrorKind::InvalidData, text))
@@ -111,7 +109,10 @@ impl Site {
                 self.aside.insert(at.join(result));
             }
         }
-        for frame in frames.iter().filter(|frame| frame.get("gone").is_none()) {
+        for frame in list(json, "frames")
+            .iter()
+            .filter(|frame| frame.get("gone").is_none())
+        {
             let text = |name| {
                 frame
                     .get(name)
@@ -242,6 +243,46 @@ impl Site {
         }
         Ok(())
     }
+}
+
+/// Whether a run began here and did not end.
+pub fn is_unfinished(folder: &Path) -> bool {
+    let is_there = |name: &str| fs::symlink_metadata(folder.join(name)).is_ok();
+    is_there(PLAN) && !is_there(MANIFEST)
+}
+
+/// Stops where a result of the run before is one of the sources.
+fn spare(folder: &Path, sources: &BTreeSet<PathBuf>) -> io::Result<()> {
+    if sources.is_empty() {
+        return Ok(());
+    }
+    for owner in [MANIFEST, PLAN].map(|name| folder.join(name)) {
+        let json = read(&owner)?;
+        let owned = json.iter().flat_map(results).filter_map(Json::text);
+        for result in owned.filter_map(inner).map(|result| folder.join(result)) {
+            if fs::canonicalize(&result).is_ok_and(|whole| sources.contains(&whole)) {
+                let text = format!(
+                    "names {}, which is to be read, as a result that a new run takes away; nothing was changed: --out names another folder",
+                    shown(&result)
+                );
+                return Err(named(&owner, io::Error::new(ErrorKind::InvalidInput, text)));
+            }
+        }
+    }
+    Ok(())
+}
+
+/// A list that a manifest or a plan has.
+fn list<'a>(json: &'a Json, name: &str) -> &'a [Json] {
+    json.get(name).map_or(&[], Json::list)
+}
+
+/// All results that a manifest or a plan names.
+fn results(json: &Json) -> impl Iterator<Item = &Json> {
+    let frames = list(json, "frames").iter();
+    frames
+        .flat_map(|frame| list(frame, "results"))
+        .chain(list(json, "aside"))
 }
 
 /// A manifest or a plan, if there is one. One that is not of this command stands in the way.

@@ -1,14 +1,14 @@
 //! Frames taken up one by one, on several cores, and told of in their order.
 
 use std::collections::BTreeMap;
-use std::path::PathBuf;
+use std::path::{Path, PathBuf};
 use std::sync::atomic::{AtomicUsize, Ordering};
 use std::sync::mpsc;
 use std::thread;
 use std::time::Instant;
 
 use frames::{Kind, Named, Problem};
-use steyrbunk::{Finder, Found, Image, Refusal};
+use steyrbunk::{record, Finder, Found, Image, Refusal};
 
 use crate::digest::sha256;
 use crate::draw;
@@ -16,12 +16,13 @@ use crate::gather::Frame;
 use crate::options::{Drawing, Options};
 use crate::record::{End, Read, Record};
 use crate::site::Site;
+use crate::source::Source;
 
 /// What was made of a frame.
 pub struct Done {
     pub record: Record,
     /// For standard output.
-    pub text: String,
+    pub text: Vec<u8>,
     /// For a person.
     pub notes: Vec<String>,
 }
@@ -92,19 +93,16 @@ impl Worker<'_> {
                 results: Vec::new(),
                 time: started.elapsed(),
             },
-            text: String::new(),
+            text: Vec::new(),
             notes: Vec::new(),
         };
         let format = self.options.format;
         done.record.end = match self.outcome(planned, &mut done) {
-            Ok(found) => {
-                done.text = format.list(&frame.shown, &found);
-                End::Found {
-                    width: found.width,
-                    height: found.height,
-                    count: found.corners.len(),
-                }
-            }
+            Ok(found) => End::Found {
+                width: found.width,
+                height: found.height,
+                count: found.corners.len(),
+            },
             Err(problem) => {
                 if let Some(site) = self.site {
                     done.record
@@ -114,7 +112,7 @@ impl Worker<'_> {
                     done.record.results.clear();
                 }
                 done.notes.push(problem.to_string());
-                done.text = format.problem(&frame.shown, &problem);
+                done.text = format.problem(&frame.shown, &problem).into_bytes();
                 End::Problem(problem)
             }
         };
@@ -128,46 +126,79 @@ impl Worker<'_> {
             .results
             .as_ref()
             .map_err(|text| Problem::Damaged(text.clone()))?;
-        let Options { named, replace, .. } = self.options;
+        let Options { source, format, .. } = self.options;
         let path = planned.frame.path.as_deref();
-        let file = match path {
-            Some(path) => frames::read(path)?,
-            None => console::read_input()?.ok_or(Problem::Refused(Refusal::FileTooLong))?,
+        let file = source.read(path)?;
+        done.record.read = Some(Read {
+            bytes: file.len(),
+            sha256: sha256(&file),
+            settings: None,
+        });
+        let (found, image) = match source {
+            Source::Frames => self.found(path.unwrap_or("stdin".as_ref()), &file, done)?,
+            Source::Records => (record::parse(&file)?, None),
         };
-        let own = frames::kind(&file) == Kind::Frame;
+        done.text = format.list(&planned.frame.shown, &found)?;
+        if let Some(site) = self.site {
+            self.write(site, results, image, &found, done)?;
+        }
+        Ok(found)
+    }
+
+    /// The corners of a frame, and its picture.
+    fn found<'a>(
+        &mut self,
+        path: &Path,
+        file: &'a [u8],
+        done: &mut Done,
+    ) -> Result<(Found, Option<Image<'a>>), Problem> {
+        let Options { named, replace, .. } = self.options;
+        let own = frames::kind(file) == Kind::Frame;
         if own && !*replace && *named != Named::default() {
             done.notes.push(
                 "note: a frame file has its own settings; --override replaces them".to_string(),
             );
         }
-        let read = Read {
-            bytes: file.len(),
-            sha256: sha256(&file),
-            settings: None,
-        };
-        let read = done.record.read.insert(read);
-        let frame = frames::open(path.unwrap_or("stdin".as_ref()), &file, named, *replace)?;
-        read.settings = own.then_some(frame.settings);
-        let found = self.finder.find(frame.image, &frame.settings);
-        let found = found.map_err(|refusal| advised(refusal, frame.image))?;
-        if let Some(site) = self.site {
-            let written = |done: &mut Done, result: &PathBuf, content: &[u8]| {
-                done.record.results.push(result.clone());
-                site.write(result, content)
-            };
-            let format = self.options.format;
-            let text = format.head().to_string() + &format.list(&planned.frame.shown, &found);
-            written(done, &results[0], text.as_bytes())?;
-            if frame.image.pixels.is_empty() && !self.options.drawings.is_empty() {
-                done.notes
-                    .push("nothing to draw: the picture has no pixels".to_string());
-                return Ok(found);
-            }
-            for (drawing, result) in self.options.drawings.iter().zip(&results[1..]) {
-                written(done, result, &drawn(drawing, frame.image, &found))?;
-            }
+        let frame = frames::open(path, file, named, *replace);
+        let frame = frame.map_err(|problem| directed(problem, path))?;
+        if let Some(read) = &mut done.record.read {
+            read.settings = own.then_some(frame.settings);
         }
-        Ok(found)
+        let found = self.finder.find(frame.image, &frame.settings);
+        let found = found.map_err(|refusal| directed(advised(refusal, frame.image), path))?;
+        Ok((found, Some(frame.image)))
+    }
+
+    /// The list into the folder, and the drawings where there is a picture.
+    fn write(
+        &self,
+        site: &Site,
+        results: &[PathBuf],
+        image: Option<Image>,
+        found: &Found,
+        done: &mut Done,
+    ) -> Result<(), Problem> {
+        let Options {
+            format, drawings, ..
+        } = self.options;
+        let list = [format.head().as_bytes(), &done.text].concat();
+        let mut written = |result: &PathBuf, content: &[u8]| {
+            done.record.results.push(result.clone());
+            site.write(result, content)
+        };
+        written(&results[0], &list)?;
+        let Some(image) = image.filter(|_| !drawings.is_empty()) else {
+            return Ok(());
+        };
+        if image.pixels.is_empty() {
+            done.notes
+                .push("nothing to draw: the picture has no pixels".to_string());
+            return Ok(());
+        }
+        for (drawing, result) in drawings.iter().zip(&results[1..]) {
+            written(result, &drawn(drawing, image, found))?;
+        }
+        Ok(())
     }
 }
 
@@ -175,6 +206,16 @@ fn drawn(drawing: &Drawing, image: Image, found: &Found) -> Vec<u8> {
     match drawing {
         Drawing::Svg => draw::svg(image, &found.corners),
         Drawing::Png => draw::picture(image, &found.corners),
+    }
+}
+
+/// A record looks like a frame file by its first byte; its name tells what it is.
+fn directed(problem: Problem, path: &Path) -> Problem {
+    match problem {
+        Problem::Refused(refusal) if path.extension() == Some(record::ENDING.as_ref()) => {
+            Problem::Advised(refusal, "a record is printed by steyrbunk read")
+        }
+        _ => problem,
     }
 }
 

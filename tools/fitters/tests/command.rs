@@ -1,10 +1,12 @@
 //! The command, run as a person runs it.
 
+use std::collections::BTreeMap;
 use std::fs;
+use std::io::Write;
 use std::path::{Path, PathBuf};
-use std::process::{Command, Output};
+use std::process::{Command, Output, Stdio};
 
-use judge::{document_frame, Frame, Room};
+use judge::{document_frame, Frame, Kind, Room, Sizes};
 
 const DOCUMENT: &str = "7 7 1\n40400000 40400000 481C4000\n";
 /// The flags that give a picture the settings of document 01's frame.
@@ -41,6 +43,16 @@ fn run(folder: &Path, words: &[&str]) -> Output {
         "{words:?} ended by a signal"
     );
     output
+}
+
+/// The same with bytes on standard input.
+fn fed(folder: &Path, words: &[&str], input: &[u8]) -> Output {
+    let mut command = Command::new(env!("CARGO_BIN_EXE_steyrbunk"));
+    let command = command.current_dir(folder).args(words);
+    let piped = command.stdin(Stdio::piped()).stdout(Stdio::piped());
+    let mut child = piped.stderr(Stdio::piped()).spawn().unwrap();
+    child.stdin.take().unwrap().write_all(input).unwrap();
+    child.wait_with_output().unwrap()
 }
 
 fn out(output: &Output) -> String {
@@ -113,7 +125,7 @@ fn settings_of_frame_files() {
 #[test]
 fn default_settings() {
     let folder = folder("defaults");
-    let board = judge::made(8, 3, judge::Sizes::up_to(200)).frame;
+    let board = judge::made(8, 3, Sizes::up_to(200)).frame;
     let defaults = Frame {
         ray: 4,
         upsampling: 2,
@@ -470,6 +482,330 @@ fn csv_and_json() {
         .starts_with("file,corner,"));
 }
 
+/// The record of a printed list, put together from document 02's layout.
+fn record_of(list: &str) -> Vec<u8> {
+    let mut lines = list.lines();
+    let sizes: Vec<u32> = words(&mut lines, 10);
+    let numbers: Vec<u32> = lines
+        .flat_map(|line| words(&mut [line].into_iter(), 16))
+        .collect();
+    let mut record = vec![1];
+    record.extend((8 + 4 * numbers.len() as u32).to_be_bytes());
+    record.extend((sizes[0] as u16).to_be_bytes());
+    record.extend((sizes[1] as u16).to_be_bytes());
+    record.extend(sizes[2].to_be_bytes());
+    record.extend(numbers.iter().flat_map(|number| number.to_be_bytes()));
+    record
+}
+
+/// The numbers of the next line.
+fn words<'a>(lines: &mut impl Iterator<Item = &'a str>, radix: u32) -> Vec<u32> {
+    let line = lines.next().unwrap();
+    let number = |word: &str| u32::from_str_radix(word, radix).unwrap();
+    line.split(' ').map(number).collect()
+}
+
+/// Frames of many kinds and sizes by their names: boards and noise, none and many corners.
+fn several_frames() -> BTreeMap<String, Vec<u8>> {
+    let mut frames = BTreeMap::new();
+    frames.insert("document.frame".to_string(), document_frame().bytes());
+    frames.insert("document.pgm".to_string(), pgm(&document_frame()));
+    for index in 0..12 {
+        let frame = judge::made(51, index, Sizes::up_to(300)).frame;
+        frames.insert(format!("{index}.pgm"), pgm(&frame));
+        frames.insert(format!("{index}.frame"), judge::make(52, index));
+    }
+    let random = &mut judge::random::Random::new(53, 0);
+    let noise = Frame {
+        width: 300,
+        height: 200,
+        pixels: judge::pictures::picture(random, Kind::Random, 300, 200),
+        suppression: 0,
+        least: 0,
+        threshold: 0,
+        ..document_frame()
+    };
+    frames.insert("noise.frame".to_string(), noise.bytes());
+    frames
+}
+
+/// A frame's list, and the list of its record, in every format; a frame that is refused has no record.
+#[test]
+fn records_of_frames() {
+    let folder = folder("records");
+    let (mut refusals, mut most) = (0, 0);
+    for (name, content) in several_frames() {
+        fs::write(folder.join(&name), content).unwrap();
+        let list = run(&folder, &[&name]);
+        let kept = run(&folder, &["--format", "record", &name]);
+        assert_eq!(status(&kept), status(&list));
+        if status(&list) != 0 {
+            assert_eq!((kept.stdout.len(), error(&kept)), (0, error(&list)));
+            refusals += 1;
+            continue;
+        }
+        assert_eq!(kept.stdout, record_of(&out(&list)), "{name}");
+        most = most.max(out(&list).lines().count());
+        let record = format!("{name}.record");
+        fs::write(folder.join(&record), &kept.stdout).unwrap();
+        for format in ["list", "csv", "json", "record"] {
+            let expected = run(&folder, &["--format", format, &name]).stdout;
+            for read in [
+                run(&folder, &["read", "--format", format, &record]),
+                fed(&folder, &["read", "--format", format, "-"], &kept.stdout),
+            ] {
+                assert_eq!((status(&read), error(&read)), (0, String::new()));
+                // A record has its own name for the frame's.
+                let text = String::from_utf8_lossy(&read.stdout);
+                let text = text
+                    .replace(&record, &name)
+                    .replace("standard input", &name);
+                let same = match format {
+                    "record" => read.stdout == expected,
+                    _ => text.as_bytes() == expected,
+                };
+                assert!(same, "{name} as {format}: {text}");
+            }
+        }
+    }
+    assert!(refusals < 8 && most > 2_000, "{refusals} {most}");
+}
+
+/// A folder of frames kept and read back: the same lists as from the frames, by the same rules.
+#[test]
+fn records_of_folders() {
+    let folder = folder("kept");
+    for (name, content) in several_frames() {
+        let sub = ["frames", "frames/two"][name.len() % 2];
+        fs::create_dir_all(folder.join(sub)).unwrap();
+        fs::write(folder.join(sub).join(name), content).unwrap();
+    }
+    let frames = run(&folder, &["--out", "lists", "--quiet", "frames"]);
+    let kept = run(
+        &folder,
+        &["--out", "kept", "--quiet", "--format", "record", "frames"],
+    );
+    assert_eq!(
+        (status(&kept), error(&kept)),
+        (status(&frames), error(&frames))
+    );
+    let again = run(&folder, &["read", "--out", "again", "kept"]);
+    let lists = files(&folder.join("lists"), ".corners");
+    let records = files(&folder.join("kept"), ".record");
+    assert!(lists.len() > 15 && lists.len() == records.len());
+    let message = format!("{} records, 0 without a list\n", records.len());
+    assert_eq!((status(&again), error(&again)), (0, message));
+    let read = files(&folder.join("again"), ".corners");
+    let named = |text: &[u8], name: &str| {
+        String::from_utf8_lossy(text).contains(&format!("\"results\":[\"{name}\"]"))
+    };
+    let manifests =
+        ["kept", "again"].map(|name| fs::read(folder.join(name).join("run.json")).unwrap());
+    for (name, list) in &lists {
+        let record = name.replace(".corners", ".record");
+        assert_eq!(records[&record], record_of(&String::from_utf8_lossy(list)));
+        assert_eq!(read[&format!("{record}.corners")], *list);
+        assert!(
+            named(&manifests[0], &record) && named(&manifests[1], &format!("{record}.corners"))
+        );
+    }
+    // A manifest over records has no settings to tell.
+    let text = String::from_utf8_lossy(&manifests[1]);
+    assert!(text.contains("\n\"settings\":null,\n"), "{text}");
+    // Beside the records, where they are no run's results: in a copy, without its manifest.
+    fs::rename(folder.join("kept"), folder.join("copy")).unwrap();
+    fs::remove_file(folder.join("copy/run.json")).unwrap();
+    let beside = run(
+        &folder,
+        &["read", "--beside", "--quiet", "--format", "csv", "copy"],
+    );
+    assert_eq!((status(&beside), error(&beside)), (0, String::new()));
+    assert_eq!(files(&folder.join("copy"), ".csv").len(), records.len());
+    assert_eq!(files(&folder.join("copy"), ".record"), records);
+    // Printed one after the other, in the order of names, and several only as text.
+    let printed = run(&folder, &["read", "--quiet", "copy"]);
+    let heads: Vec<String> = out(&printed)
+        .lines()
+        .filter(|line| line.starts_with('#'))
+        .map(str::to_string)
+        .collect();
+    assert!(heads.len() == records.len() && heads.is_sorted());
+    let output = run(&folder, &["read", "--format", "record", "copy"]);
+    assert_eq!((status(&output), out(&output).as_str()), (2, ""));
+    assert!(error(&output).contains("several records do not go to standard output"));
+}
+
+/// The files of a folder, and below it, with an ending.
+fn files(folder: &Path, ending: &str) -> BTreeMap<String, Vec<u8>> {
+    let mut found = BTreeMap::new();
+    for entry in fs::read_dir(folder).unwrap() {
+        let entry = entry.unwrap();
+        let name = entry.file_name().into_string().unwrap();
+        if entry.path().is_dir() {
+            let below = files(&entry.path(), ending);
+            found.extend(
+                below
+                    .into_iter()
+                    .map(|(file, content)| (format!("{name}/{file}"), content)),
+            );
+        } else if name.ends_with(ending) {
+            found.insert(name, fs::read(entry.path()).unwrap());
+        }
+    }
+    found
+}
+
+/// Document 02's first refusals of a record, from its text.
+fn refusal_of(record: &[u8]) -> Option<u32> {
+    let number = |from: usize| {
+        u64::from(u32::from_be_bytes(
+            record[from..from + 4].try_into().unwrap(),
+        ))
+    };
+    if record.len() < 13 || number(1) + 5 != record.len() as u64 {
+        return Some(16);
+    }
+    if record[0] != 1 {
+        return Some(17);
+    }
+    if 8 + 12 * number(9) != number(1) || number(9) > 8_388_608 {
+        return Some(18);
+    }
+    let stray = |at: usize| number(at) >> 23 & 0xFF == 0xFF;
+    (13..record.len()).step_by(4).any(stray).then_some(19)
+}
+
+/// Every bit of a record turned, every length up to its own and some beyond, and counts that would wrap.
+#[test]
+fn damaged_records() {
+    let folder = folder("records-damaged");
+    let list = "14 300 2\n40400000 80000000 00800000\n00000001 7F7FFFFF 3F800000\n";
+    let sound = record_of(list);
+    let mut damaged = vec![sound.clone()];
+    for bit in 0..8 * sound.len() {
+        let mut record = sound.clone();
+        record[bit / 8] ^= 1 << (bit % 8);
+        damaged.push(record);
+    }
+    damaged.extend((0..sound.len()).map(|length| sound[..length].to_vec()));
+    damaged.extend((1..30).map(|more| [&sound[..], &vec![0; more]].concat()));
+    damaged.extend(
+        [0x4000_0002u32, 0x8000_0002, 0xFFFF_FFFF]
+            .map(|count| [&sound[..9], &count.to_be_bytes(), &sound[13..]].concat()),
+    );
+    let name = |at: usize| format!("{at:04}.record");
+    fs::create_dir_all(folder.join("kept")).unwrap();
+    for (at, record) in damaged.iter().enumerate() {
+        fs::write(folder.join("kept").join(name(at)), record).unwrap();
+    }
+    let printed = run(&folder, &["read", "--quiet", "kept"]);
+    let written = run(&folder, &["read", "--quiet", "--out", "lists", "kept"]);
+    assert_eq!(
+        (status(&printed), status(&written), out(&written).as_str()),
+        (1, 1, "")
+    );
+    assert_eq!(error(&printed), error(&written));
+    let text = out(&printed);
+    let printed: BTreeMap<&str, &str> = text
+        .split("# kept/")
+        .skip(1)
+        .filter_map(|part| part.split_once('\n'))
+        .collect();
+    let lists = files(&folder.join("lists"), ".corners");
+    let manifest = fs::read_to_string(folder.join("lists/run.json")).unwrap();
+    let mut seen = BTreeMap::new();
+    for (at, record) in damaged.iter().enumerate() {
+        let (name, number) = (name(at), refusal_of(record));
+        *seen.entry(number).or_insert(0) += 1;
+        match number {
+            Some(number) => {
+                assert_eq!(printed[name.as_str()], format!("refused {number}\n"));
+                let message = format!("kept/{name}: refused {number}: ");
+                assert!(error(&written).contains(&message), "{message}");
+                assert!(!lists.contains_key(&format!("{name}.corners")));
+                let row = manifest
+                    .lines()
+                    .find(|line| line.contains(&format!("\"name\":\"{name}\"")))
+                    .unwrap();
+                assert!(
+                    row.contains(&format!("\"answer\":{number},"))
+                        && row.contains("\"results\":[]"),
+                    "{row}"
+                );
+            }
+            None => {
+                assert_eq!(record_of(printed[name.as_str()]), *record);
+                assert_eq!(
+                    lists[&format!("{name}.corners")],
+                    printed[name.as_str()].as_bytes()
+                );
+            }
+        }
+    }
+    assert_eq!(printed["0000.record"], list);
+    for number in [None, Some(16), Some(17), Some(18), Some(19)] {
+        assert!(seen.contains_key(&number), "{seen:?}");
+    }
+    assert_eq!(seen.values().sum::<usize>(), damaged.len());
+    // In the other formats a refused record is what a refused frame is.
+    fs::write(folder.join("bad.record"), b"").unwrap();
+    for (format, text) in [
+        ("csv", "file,corner,x,y,strength\n"),
+        ("json", "{\"file\":\"bad.record\",\"refused\":16,\"reason\":\"the record has under 13 bytes or not the length that it states\"}\n"),
+        ("record", ""),
+    ] {
+        let output = run(&folder, &["read", "--format", format, "bad.record"]);
+        assert_eq!((out(&output).as_str(), status(&output)), (text, 1));
+    }
+    // A frame file is no record, and a record no frame; a record's name says what to do.
+    fs::write(folder.join("a.frame"), document_frame().bytes()).unwrap();
+    assert!(error(&run(&folder, &["read", "a.frame"])).contains("a.frame: refused 18: "));
+    let message = error(&run(&folder, &["kept/0000.record"]));
+    assert!(
+        message.ends_with("; a record is printed by steyrbunk read\n"),
+        "{message}"
+    );
+}
+
+/// The greatest record, one corner more, and files that no record can be.
+#[test]
+fn long_records() {
+    let folder = folder("records-long");
+    let sparse = |name: &str, count: u32, length: u64| {
+        let stated = 8u32.wrapping_add(12u32.wrapping_mul(count));
+        let head = [
+            &[1][..],
+            &stated.to_be_bytes(),
+            &[0; 4],
+            &count.to_be_bytes(),
+        ]
+        .concat();
+        fs::write(folder.join(name), head).unwrap();
+        let file = fs::OpenOptions::new()
+            .write(true)
+            .open(folder.join(name))
+            .unwrap();
+        file.set_len(length).unwrap();
+    };
+    let most = 8_388_608;
+    sparse("most.record", most, 13 + 12 * u64::from(most));
+    let output = run(&folder, &["read", "--format", "record", "most.record"]);
+    assert_eq!((status(&output), error(&output)), (0, String::new()));
+    assert!(output.stdout == fs::read(folder.join("most.record")).unwrap());
+    sparse("more.record", most + 1, 13 + 12 * u64::from(most + 1));
+    sparse("behind.record", most, 14 + 12 * u64::from(most));
+    sparse("long.record", 0, 1 << 40);
+    for (name, number) in [("more", 18), ("behind", 16), ("long", 10)] {
+        let output = run(&folder, &["read", &format!("{name}.record")]);
+        assert_eq!(
+            (out(&output), status(&output)),
+            (format!("refused {number}\n"), 1),
+            "{name}"
+        );
+    }
+    fs::remove_dir_all(&folder).unwrap();
+}
+
 /// The chunks of a PNG, taken apart; what it stores, without the bytes in front of rows.
 fn pixels(png: &[u8]) -> (usize, usize, Vec<u8>) {
     assert_eq!(png[..8], *b"\x89PNG\r\n\x1a\n");
@@ -558,6 +894,17 @@ fn help_and_wrong_words() {
         &["--jobs", "0", "a"],
         &["-x", "a"],
         &["--beside", "-"],
+        &["--format", "record", "a", "b"],
+        &["read"],
+        &["read", "--quiet"],
+        &["read", "--nothing", "a"],
+        &["read", "--draw", "svg", "--out", "x", "a"],
+        &["read", "--ray-radius", "4", "a"],
+        &["read", "--threshold-rel", "nan", "a"],
+        &["read", "--override", "a"],
+        &["read", "--format", "record", "a", "b"],
+        &["read", "--beside", "-"],
+        &["read", "--out", "x", "--beside", "a"],
     ] {
         let output = run(&folder, words);
         assert_eq!(

@@ -103,8 +103,11 @@ fn write_day(frames: &Path, day: usize) {
     }
 }
 
-/// Every file below a folder with its content, by its name from there.
-fn all(folder: &Path) -> BTreeMap<String, Vec<u8>> {
+/// Files with their content, by their names from a folder.
+type Files = BTreeMap<String, Vec<u8>>;
+
+/// Every file below a folder.
+fn all(folder: &Path) -> Files {
     let (mut found, mut folders) = (BTreeMap::new(), vec![folder.to_path_buf()]);
     while let Some(at) = folders.pop() {
         for entry in fs::read_dir(&at).unwrap() {
@@ -126,7 +129,7 @@ fn all(folder: &Path) -> BTreeMap<String, Vec<u8>> {
 
 /// Names that only results have.
 fn is_result(name: &str) -> bool {
-    [".corners", ".csv", ".json", ".svg", ".png"]
+    [".corners", ".csv", ".json", ".record", ".svg", ".png"]
         .iter()
         .any(|ending| name.ends_with(ending))
         && name != "run.json"
@@ -144,8 +147,8 @@ fn owned(text: &[u8]) -> BTreeSet<String> {
 }
 
 /// What a folder is allowed to look like, whenever the command was stopped: `days` are the whole lists of each day.
-/// Tells whether there was a manifest.
-fn held(lists: &Path, days: &[BTreeMap<String, Vec<u8>>]) -> bool {
+/// Tells whose day it is, where there is a manifest.
+fn held(lists: &Path, days: &[&Files]) -> Option<usize> {
     let files = all(lists);
     let results: BTreeMap<_, _> = files.iter().filter(|(name, _)| is_result(name)).collect();
     match (files.get("run.json"), files.get("run.plan")) {
@@ -154,85 +157,137 @@ fn held(lists: &Path, days: &[BTreeMap<String, Vec<u8>>]) -> bool {
             let there: BTreeSet<String> = results.keys().map(|name| name.to_string()).collect();
             assert_eq!(there, owned, "a manifest, and other lists than it names");
             // All of one day: the manifest's.
-            let of_day = |day: &BTreeMap<String, Vec<u8>>| {
+            let of_day = |day: &&Files| {
                 results
                     .iter()
                     .all(|(name, list)| day.get(*name) == Some(*list))
             };
-            assert!(days.iter().any(of_day), "lists of two runs");
-            true
+            let day = days.iter().position(of_day);
+            assert!(day.is_some(), "lists of two runs");
+            day
         }
         (None, Some(plan)) => {
             let owned = owned(plan);
             results
                 .keys()
                 .for_each(|name| assert!(owned.contains(*name), "{name} is owned by nothing"));
-            false
+            None
         }
         (None, None) => {
             assert!(
                 results.is_empty(),
                 "lists, and neither manifest nor plan: {results:?}"
             );
-            false
+            None
         }
     }
 }
 
-/// The lists of a day, by a run that nothing disturbs.
-fn whole_day(folder: &Path, day: usize, words: &[&str]) -> BTreeMap<String, Vec<u8>> {
-    let at = folder.join(format!("day{day}"));
-    write_day(&at.join("frames"), day);
-    let output = run(&at, words);
-    assert_eq!(status(&output), 0, "{}", error(&output));
-    let mut files = all(&at.join("lists"));
-    files.retain(|name, _| is_result(name));
-    assert_eq!(files.len(), 2 * FRAMES);
-    files
+/// A call that is made again and again, with what it reads and leaves on each of two days.
+struct Course {
+    words: Vec<&'static str>,
+    sources: [Files; 2],
+    results: [Files; 2],
+    /// How long it takes.
+    usual: Duration,
+}
+
+impl Course {
+    /// By runs that nothing disturbs.
+    fn new(folder: &Path, words: &[&'static str], sources: [Files; 2]) -> Course {
+        let words = words.to_vec();
+        let each = if words.contains(&"--draw") { 2 } else { 1 };
+        let started = Instant::now();
+        let results = [0, 1].map(|day| {
+            let at = folder.join(format!("{}{day}", words.join(" ")));
+            write_all(&at.join("frames"), &sources[day]);
+            let output = run(&at, &words);
+            assert_eq!(status(&output), 0, "{}", error(&output));
+            let mut files = all(&at.join("lists"));
+            files.retain(|name, _| is_result(name));
+            assert_eq!(files.len(), each * FRAMES);
+            files
+        });
+        assert_ne!(results[0], results[1]);
+        Course {
+            words,
+            sources,
+            results,
+            usual: started.elapsed() / 2,
+        }
+    }
+}
+
+fn write_all(folder: &Path, files: &Files) {
+    for (name, content) in files {
+        let path = folder.join(name);
+        fs::create_dir_all(path.parent().unwrap()).unwrap();
+        fs::write(path, content).unwrap();
+    }
+}
+
+/// Lists and drawings of frames, their records, and the lists of these: half of the runs are of the first kind.
+fn courses(folder: &Path) -> [Course; 3] {
+    let days = [0, 1].map(|day| {
+        write_day(&folder.join(format!("frames{day}")), day);
+        all(&folder.join(format!("frames{day}")))
+    });
+    let lists = ["--out", "lists", "--draw", "svg", "--quiet", "frames"];
+    let records = ["--out", "lists", "--format", "record", "--quiet", "frames"];
+    let read = [
+        "read", "--out", "lists", "--format", "csv", "--quiet", "frames",
+    ];
+    let lists = Course::new(folder, &lists, days.clone());
+    let records = Course::new(folder, &records, days);
+    let read = Course::new(folder, &read, records.results.clone());
+    [lists, records, read]
 }
 
 /// Killed at many points of a run over yesterday's results: by SIGKILL and by SIGINT.
 #[test]
 fn killed_anywhere() {
     let folder = folder("killed");
-    let words = ["--out", "lists", "--draw", "svg", "--quiet", "frames"];
-    let days = [whole_day(&folder, 0, &words), whole_day(&folder, 1, &words)];
-    assert_ne!(days[0], days[1]);
+    let mut courses = courses(&folder);
     let at = folder.join("run");
     let lists = at.join("lists");
-    write_day(&at.join("frames"), 0);
-    let started = Instant::now();
-    assert_eq!(status(&run(&at, &words)), 0);
-    let mut usual = started.elapsed();
-    let (mut cut, mut before, mut between, mut after) = (0, 0, 0, 0);
+    let (mut cut, mut before, mut between, mut after) = ([0; 3], 0, [0; 3], 0);
     for point in 0..2 * POINTS {
+        let kind = [0, 1, 0, 2][point / 2 % 4];
+        let Course {
+            words,
+            sources,
+            results,
+            usual,
+        } = &mut courses[kind];
+        let days = [&results[0], &results[1]];
         // Yesterday's run, whole; then today's, killed on its way.
-        write_day(&at.join("frames"), 0);
-        assert_eq!(status(&run(&at, &words)), 0);
-        assert!(held(&lists, &days[..1]));
-        write_day(&at.join("frames"), 1);
-        let mut child = command(&at, &words).stderr(Stdio::null()).spawn().unwrap();
+        write_all(&at.join("frames"), &sources[0]);
+        assert_eq!(status(&run(&at, words)), 0);
+        assert_eq!(held(&lists, &days[..1]), Some(0));
+        write_all(&at.join("frames"), &sources[1]);
+        let mut child = command(&at, words).stderr(Stdio::null()).spawn().unwrap();
         sleep(usual.mul_f64((point / 2) as f64 / POINTS as f64));
-        let signal = if point % 2 == 0 { "-KILL" } else { "-INT" };
-        let killed = Command::new("kill")
-            .args([signal, &child.id().to_string()])
-            .stderr(Stdio::null())
-            .status();
-        assert!(killed.is_ok());
+        if point % 2 == 0 {
+            child.kill().unwrap();
+        } else {
+            let interrupted = Command::new("kill")
+                .args(["-INT", &child.id().to_string()])
+                .stderr(Stdio::null())
+                .status();
+            assert!(interrupted.is_ok());
+        }
         let ended = child.wait().unwrap();
-        cut += usize::from(ended.code().is_none());
-        let manifest = held(&lists, &days);
-        let today = manifest && all(&lists)["001.pgm.corners"] == days[1]["001.pgm.corners"];
-        match (manifest, today) {
-            (true, false) => before += 1,
-            (false, _) => between += 1,
-            (true, true) => after += 1,
+        cut[kind] += usize::from(ended.code().is_none());
+        match held(&lists, &days) {
+            Some(0) => before += 1,
+            Some(_) => after += 1,
+            None => between[kind] += 1,
         }
         // The next run clears up.
         let started = Instant::now();
-        assert_eq!(status(&run(&at, &words)), 0);
-        usual = usual.mul_f64(0.8) + started.elapsed().mul_f64(0.2);
-        assert!(held(&lists, &days[1..]));
+        assert_eq!(status(&run(&at, words)), 0);
+        *usual = usual.mul_f64(0.8) + started.elapsed().mul_f64(0.2);
+        assert_eq!(held(&lists, &days[1..]), Some(0));
         let names: Vec<String> = all(&lists)
             .into_keys()
             .filter(|name| !is_result(name))
@@ -240,13 +295,16 @@ fn killed_anywhere() {
         assert_eq!(names, ["run.json"]);
     }
     println!(
-        "{} points: {cut} runs cut off; yesterday's manifest still there {before} times, none {between} times, today's {after} times",
+        "{} points: runs cut off {cut:?} (lists, records, records read); yesterday's manifest still there {before} times, \
+         none {between:?} times, today's {after} times",
         2 * POINTS
     );
-    assert!(
-        cut > POINTS / 2 && between > POINTS / 4,
-        "the points do not lie inside the runs: {cut}, {between}"
-    );
+    for (kind, share) in [(0, 2), (1, 4), (2, 4)] {
+        assert!(
+            cut[kind] > POINTS / 2 / share && between[kind] > POINTS / 4 / share,
+            "the points do not lie inside the runs: {cut:?}, {between:?}"
+        );
+    }
 }
 
 /// A file system that fills up on the way: small ones, in a name space of their own.
@@ -255,14 +313,28 @@ fn a_full_disk() {
     let folder = folder("full");
     write_day(&folder.join("frames"), 1);
     fs::create_dir_all(folder.join("lists")).unwrap();
-    let mut starved = 0;
+    let kept = ["--out", "kept", "--quiet", "--format", "record", "frames"];
+    assert_eq!(status(&run(&folder, &kept)), 0);
+    let calls = [
+        ("frames/two", "--draw svg frames"),
+        (
+            "--format record frames/two",
+            "--format record --draw svg frames",
+        ),
+        ("frames/two", "--draw svg frames"),
+        ("--format record frames/two", "read --format json kept"),
+    ];
+    let mut starved = [0; 4];
     for kilobytes in (8..=400).step_by(8) {
+        let kind = kilobytes / 8 % 4;
+        let (yesterday, today) = calls[kind];
+        let results_of_all = FRAMES * if today.contains("--draw") { 2 } else { 1 };
         // Yesterday's lists stand on the disk; then it is made smaller than today's lists are.
         let script = format!(
-            "mount -t tmpfs -o size=1m tmpfs lists && '{BINARY}' --quiet --out lists frames/two >/dev/null 2>&1 \
-             && mount -o remount,size={kilobytes}k lists; '{BINARY}' --quiet --out lists --draw svg frames 2>message; \
+            "mount -t tmpfs -o size=1m tmpfs lists && '{BINARY}' {yesterday} --quiet --out lists >/dev/null 2>&1 \
+             && mount -o remount,size={kilobytes}k lists; '{BINARY}' {today} --quiet --out lists 2>message; \
              echo status $?; cd lists; find . -type f | sort; echo ---; cat run.json 2>/dev/null; echo ---; cat run.plan 2>/dev/null; \
-             cd ..; mount -o remount,size=8m lists; '{BINARY}' --quiet --out lists --draw svg frames; echo again $?; ls lists | grep -c part"
+             cd ..; mount -o remount,size=8m lists; '{BINARY}' {today} --quiet --out lists; echo again $?; ls lists | grep -c part"
         );
         let output = Command::new("unshare")
             .args(["-r", "-m", "sh", "-c", &script])
@@ -289,9 +361,9 @@ fn a_full_disk() {
             .filter(|name| is_result(name))
             .collect();
         if first.contains("status 0\n") {
-            assert_eq!(results.len(), 2 * FRAMES, "{kilobytes} kB");
+            assert_eq!(results.len(), results_of_all, "{kilobytes} kB");
         } else {
-            starved += 1;
+            starved[kind] += 1;
             assert!(
                 message.contains("No space left") || message.contains("os error 28"),
                 "{message}"
@@ -308,8 +380,8 @@ fn a_full_disk() {
                 .for_each(|name| assert!(plan.contains(*name), "{kilobytes} kB: {name}"));
         }
     }
-    println!("50 sizes, {starved} too small");
-    assert!(starved > 5);
+    println!("50 sizes, {starved:?} too small");
+    assert!(starved.iter().all(|starved| *starved > 2));
 }
 
 fn is_root() -> bool {
@@ -440,6 +512,31 @@ fn rights() {
     let output = nobody(&["--out", "lists", "frames"]);
     assert_eq!(status(&output), 1, "the unreadable frame");
     assert_eq!(all(&lists).len(), 6);
+    // Records: one that cannot be read has no list; where the output cannot be written nothing is changed.
+    give(&frames.join("open/a.pgm"), 0o644);
+    let keep = ["--out", "kept", "--format", "record", "--quiet", "frames"];
+    assert_eq!(status(&nobody(&keep)), 0);
+    let kept = folder.join("kept");
+    let before = all(&kept);
+    assert_eq!(before.len(), 7);
+    give(&kept.join("open/b.pgm.record"), 0o000);
+    let output = nobody(&["read", "--out", "again", "--quiet", "kept"]);
+    assert_eq!(status(&output), 1);
+    let message = "kept/open/b.pgm.record: Permission denied";
+    assert!(error(&output).contains(message), "{}", error(&output));
+    let again = all(&folder.join("again"));
+    assert!(again.len() == 6 && !again.contains_key("open/b.pgm.record.corners"));
+    give(&kept.join("open/b.pgm.record"), 0o644);
+    for closed in ["kept", "again"] {
+        give(&folder.join(closed), 0o555);
+    }
+    let output = nobody(&keep);
+    assert_eq!(status(&output), 1);
+    assert!(error(&output).contains("kept/run.json: Permission denied"));
+    let output = nobody(&["read", "--out", "again", "--quiet", "kept"]);
+    assert_eq!(status(&output), 1);
+    assert!(error(&output).contains("again/run.json: Permission denied"));
+    assert!(all(&kept) == before && all(&folder.join("again")) == again);
     fs::remove_dir_all(&folder).unwrap();
 }
 
@@ -452,11 +549,17 @@ fn two_at_a_time() {
         status(&run(&folder, &["--out", "lists", "--quiet", "frames"])),
         0
     );
-    // The first run waits for its frame on standard input.
+    let record = run(&folder, &["--format", "record", "frames/001.pgm"]).stdout;
+    second_run(&folder, &["--out", "lists", "-"], &board(0, 1));
+    second_run(&folder, &["read", "--out", "lists", "-"], &record);
+}
+
+/// One run waits for its frame or record on standard input; another one comes along.
+fn second_run(folder: &Path, words: &[&str], input: &[u8]) {
     let mut first = Command::new(BINARY);
     let mut first = first
-        .current_dir(&folder)
-        .args(["--out", "lists", "-"])
+        .current_dir(folder)
+        .args(words)
         .stdin(Stdio::piped())
         .spawn()
         .unwrap();
@@ -470,15 +573,18 @@ fn two_at_a_time() {
         sleep(Duration::from_millis(1));
     }
     let before = all(&lists);
-    let output = run(&folder, &["--out", "lists", "frames"]);
-    assert_eq!(status(&output), 1);
-    assert!(error(&output).contains("lists: another run is writing there; nothing was changed"));
-    assert_eq!(all(&lists), before);
-    first.stdin.take().unwrap().write_all(&board(0, 1)).unwrap();
+    for second in [&["frames"][..], &["--format", "record", "frames"]] {
+        let output = run(folder, &[&["--out", "lists"][..], second].concat());
+        assert_eq!(status(&output), 1);
+        let message = "lists: another run is writing there; nothing was changed";
+        assert!(error(&output).contains(message));
+        assert_eq!(all(&lists), before);
+    }
+    first.stdin.take().unwrap().write_all(input).unwrap();
     assert!(first.wait().unwrap().success());
     let files: Vec<String> = all(&lists).into_keys().collect();
     assert_eq!(files, ["run.json", "stdin.corners"]);
-    assert_eq!(status(&run(&folder, &["--out", "lists", "frames"])), 0);
+    assert_eq!(status(&run(folder, &["--out", "lists", "frames"])), 0);
 }
 
 /// Of several folders one that another run has stops none of the others.
@@ -562,21 +668,41 @@ fn the_users_own_files() {
     fs::create_dir_all(&lists).unwrap();
     fs::write(frames.join("a.pgm"), board(0, 1)).unwrap();
     fs::write(frames.join("b.pgm"), board(0, 2)).unwrap();
-    for name in ["a.pgm.corners", "notes.txt", "c.pgm.corners", "b.pgm.csv"] {
+    let mine = [
+        "a.pgm.corners",
+        "a.pgm.record",
+        "notes.txt",
+        "c.pgm.corners",
+        "c.pgm.record",
+        "b.pgm.csv",
+    ];
+    for name in mine {
         fs::write(lists.join(name), "mine").unwrap();
     }
     let words = ["--out", "lists", "frames"];
-    for _ in 0..2 {
-        let output = run(&folder, &words);
+    for format in ["record", "list", "record", "record", "list", "list"] {
+        let output = run(&folder, &[&words[..], &["--format", format]].concat());
         assert_eq!(status(&output), 1);
-        let text = "frames/a.pgm: a.pgm.corners is there and not of an earlier run: it stays";
-        assert!(error(&output).contains(text), "{}", error(&output));
+        let ending = if format == "list" { "corners" } else { format };
+        let text = format!("a.pgm: a.pgm.{ending} is there and not of an earlier run: it stays");
+        assert!(error(&output).contains(&text), "{}", error(&output));
         let files = all(&lists);
-        assert_eq!(files.len(), 6);
-        assert_eq!(files.values().filter(|text| *text == b"mine").count(), 4);
-        assert!(files.contains_key("b.pgm.corners"));
+        assert_eq!(files.len(), mine.len() + 2);
+        assert!(mine.iter().all(|name| files[*name] == b"mine"));
+        assert!(files.contains_key(&format!("b.pgm.{ending}")));
     }
-    fs::remove_file(lists.join("a.pgm.corners")).unwrap();
+    // One that is in the way of a list that is read back.
+    fs::write(folder.join("a.pgm.record"), record_of_none()).unwrap();
+    fs::write(lists.join("a.pgm.record.csv"), "mine").unwrap();
+    let read = ["read", "--out", "lists", "--format", "csv", "a.pgm.record"];
+    let output = run(&folder, &read);
+    assert_eq!(status(&output), 1);
+    let text = "a.pgm.record: a.pgm.record.csv is there and not of an earlier run: it stays";
+    assert!(error(&output).contains(text), "{}", error(&output));
+    assert_eq!(all(&lists).len(), mine.len() + 2);
+    for name in ["a.pgm.corners", "a.pgm.record.csv"] {
+        fs::remove_file(lists.join(name)).unwrap();
+    }
     assert_eq!(status(&run(&folder, &words)), 0);
     // A manifest of somebody else, one that was damaged, and one that leads out of the folder.
     let outside = folder.join("outside.corners");
@@ -600,6 +726,95 @@ fn the_users_own_files() {
         assert!(outside.exists() && lists.join("b.pgm.corners").exists());
         let _ = fs::remove_file(lists.join("run.plan"));
     }
+}
+
+/// The record of a frame without corners.
+fn record_of_none() -> Vec<u8> {
+    vec![1, 0, 0, 0, 8, 0, 96, 0, 96, 0, 0, 0, 0]
+}
+
+/// Records that a run wrote are never taken away by the run that is to read them.
+#[test]
+fn sources_stay() {
+    let folder = folder("sources");
+    write_day(&folder.join("frames"), 0);
+    let keep = [
+        "--out",
+        "kept/dawn",
+        "--format",
+        "record",
+        "--quiet",
+        "frames",
+    ];
+    assert_eq!(status(&run(&folder, &keep)), 0);
+    let kept = folder.join("kept");
+    std::os::unix::fs::symlink(&kept, folder.join("link")).unwrap();
+    let refused = |words: &[&str]| {
+        let before = all(&kept);
+        let output = run(&folder, words);
+        assert_eq!(status(&output), 1, "{words:?}");
+        assert!(
+            error(&output).contains("which is to be read"),
+            "{}",
+            error(&output)
+        );
+        assert!(
+            error(&output).contains("nothing was changed"),
+            "{}",
+            error(&output)
+        );
+        assert!(all(&kept) == before, "{words:?}");
+    };
+    for words in [
+        &["--out", "kept/dawn", "kept"][..],
+        &["--out", "kept/dawn", "kept/dawn/001.pgm.record"],
+        &["--out", "kept/dawn", "--format", "record", "link"],
+        &["--beside", "kept"],
+        &["--beside", "link", "--format", "csv"],
+        &["--beside", "kept/dawn/001.pgm.record"],
+    ] {
+        refused(&[&["read"][..], words].concat());
+    }
+    // Into a folder below: the first time; not over what it would read itself the second time.
+    let below = [
+        "read",
+        "--out",
+        "kept/below",
+        "--format",
+        "record",
+        "--quiet",
+        "kept",
+    ];
+    assert_eq!(status(&run(&folder, &below)), 0);
+    refused(&below);
+    // A run that was cut off owns its records by its plan; that they do not count is said, and they stay.
+    fs::remove_dir_all(kept.join("below")).unwrap();
+    fs::rename(kept.join("dawn/run.json"), kept.join("dawn/run.plan")).unwrap();
+    refused(&["read", "--out", "kept/dawn", "kept"]);
+    for path in ["kept", "kept/dawn/001.pgm.record"] {
+        let output = run(&folder, &["read", "--out", "lists", "--quiet", path]);
+        assert_eq!(status(&output), 1);
+        let text = "kept/dawn: a run.plan and no run.json: a run there is not over or was cut off, and no record of it counts\n";
+        assert_eq!(error(&output), text);
+    }
+    let manifest = fs::read_to_string(folder.join("lists/run.json")).unwrap();
+    assert!(manifest.contains("\"problems\":[\"kept/dawn: a run.plan"));
+    // Records that are gone are told of once, like frames.
+    fs::rename(kept.join("dawn/run.plan"), kept.join("dawn/run.json")).unwrap();
+    let words = ["read", "--out", "lists", "--quiet", "kept"];
+    assert_eq!(status(&run(&folder, &words)), 0);
+    fs::remove_file(kept.join("dawn/001.pgm.record")).unwrap();
+    let output = run(&folder, &words);
+    assert_eq!(status(&output), 1);
+    let text = "kept/dawn/001.pgm.record: gone: the run before had it\n";
+    assert!(error(&output).ends_with(text), "{}", error(&output));
+    assert!(!folder.join("lists/dawn/001.pgm.record.corners").exists());
+    assert_eq!(status(&run(&folder, &words)), 0);
+    // And a folder without any has nothing to read.
+    let output = run(&folder, &["read", "--out", "lists", "frames"]);
+    assert_eq!(status(&output), 1);
+    assert!(error(&output).contains("frames: no .record file in it"));
+    assert_eq!(all(&folder.join("lists")).len(), 1);
 }
 
 /// No frame can keep a run waiting, and no name can break a list.
@@ -685,19 +900,26 @@ fn in_order() {
 fn a_full_output() {
     let folder = folder("output");
     fs::write(folder.join("a.pgm"), board(0, 1)).unwrap();
-    let mut command = command(&folder, &["a.pgm"]);
-    command.stdout(
-        fs::OpenOptions::new()
-            .write(true)
-            .open("/dev/full")
-            .unwrap(),
-    );
-    let output = command
-        .stderr(Stdio::piped())
-        .spawn()
-        .unwrap()
-        .wait_with_output()
-        .unwrap();
-    assert_eq!(status(&output), 1);
-    assert!(error(&output).contains("standard output: No space left on device"));
+    fs::write(folder.join("a.record"), record_of_none()).unwrap();
+    for words in [
+        &["a.pgm"][..],
+        &["--format", "record", "a.pgm"],
+        &["read", "a.record"],
+    ] {
+        let mut command = command(&folder, words);
+        command.stdout(
+            fs::OpenOptions::new()
+                .write(true)
+                .open("/dev/full")
+                .unwrap(),
+        );
+        let output = command
+            .stderr(Stdio::piped())
+            .spawn()
+            .unwrap()
+            .wait_with_output()
+            .unwrap();
+        assert_eq!(status(&output), 1);
+        assert!(error(&output).contains("standard output: No space left on device"));
+    }
 }

@@ -38,7 +38,7 @@ impl fmt::Display for Problem {
 }
 
 impl Problem {
-    /// The refusal by document 01's table, where it is one.
+    /// The refusal by the documents' tables, where it is one.
     pub fn refusal(&self) -> Option<Refusal> {
         match self {
             Problem::Refused(refusal) | Problem::Advised(refusal, _) => Some(*refusal),
@@ -64,11 +64,6 @@ impl From<String> for Problem {
     fn from(text: String) -> Problem {
         Problem::Damaged(text)
     }
-}
-
-/// The bytes of a file that is not longer than a frame can be.
-pub fn read(path: &Path) -> Result<Vec<u8>, Problem> {
-    console::read(path)?.ok_or(Problem::Refused(Refusal::FileTooLong))
 }
 
 /// The picture and settings in a file's bytes; `replace` puts the named settings over a frame file's own. The path is for the words alone.

@@ -1,4 +1,4 @@
-//! Document 01's limits, said once for all tools. The C header says them for C, and the wrapper's sentences name them;
+//! The limits of documents 01 and 02, said once for all tools. The C header says them for C, and the wrapper's sentences name them;
 //! tests hold these to what stands here, and write the document's numbers out where they try the library.
 
 /// Input pixels along a side.
@@ -11,3 +11,5 @@ pub const WORKING: usize = 8_388_608;
 pub const RAY: u32 = 7;
 pub const BLUR: u32 = 3;
 pub const SUPPRESSION: u32 = 32;
+/// Corners of a record.
+pub const RECORD_CORNERS: usize = 8_388_608;

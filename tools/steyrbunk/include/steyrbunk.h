@@ -1,9 +1,10 @@
 /* steyrbunk.h: the proved Radon corner finder, as a static library (libsteyrbunk_c.a).
  *
  * steyrbunk_find does everything; steyrbunk_response makes the map alone, and steyrbunk_peaks makes
- * the list of a map. They allocate nothing, keep nothing between calls, and may run at the same time
- * on different buffers. The caller lends every buffer. steyrbunk_sqrt and steyrbunk_ln are the root
- * and the logarithm that they take.
+ * the list of a map. steyrbunk_write_record makes a record of a list, bytes to be kept, and
+ * steyrbunk_read_record the list of a record. They allocate nothing, keep nothing between calls, and
+ * may run at the same time on different buffers. The caller lends every buffer. steyrbunk_sqrt and
+ * steyrbunk_ln are the root and the logarithm that the finder takes.
  *
  * Words used below
  *   factor       1 or 2: image_upsample, where 0 counts as 1, and 3 or more as 2
@@ -14,11 +15,11 @@
  * 25 bytes a working pixel together. What they held before changes nothing. With answers 0 and 1 the
  * first W*H entries of each are written, row after row (those of blur_scratch only if the blur radius
  * is not 0); entries beyond stay as they were. With every other answer no buffer changes.
- * No two buffers may overlap, and none may overlap the image. Where a length is 0 its pointer is not
- * read. Tables, response, scratch and list must be aligned to four bytes, as malloc aligns them, and
- * count, w and h as a size_t is; image and working may lie anywhere. count, w and h are written with
- * every answer and must not be null: a null one is written through, and the program is ended by the
- * system or worse.
+ * No two buffers may overlap, and none may overlap the image or a record that is read. Where a length
+ * is 0 its pointer is not read. Tables, response, scratch and list must be aligned to four bytes, as
+ * malloc aligns them, and count, w and h as a size_t is; image, working and records may lie anywhere.
+ * count, w and h are written with every answer and must not be null: a null one is written through,
+ * and the program is ended by the system or worse.
  *
  * Answers. The lowest number of 2 to 9 that applies is given; 14 comes before them.
  *    0  accepted, all corners are in the list
@@ -32,6 +33,13 @@
  *    8  threshold_rel is NaN, below 0 or above 1
  *    9  a lent buffer other than the list is too short
  *   14  peak_fit is above 1
+ * Records are answered 0 or one of these, again the lowest that applies:
+ *   16  the record has under 13 bytes or not the length that it states
+ *   17  the record's version is not 1
+ *   18  the record's count and length disagree, or there are over STEYRBUNK_GREATEST_RECORD_CORNERS
+ *       corners
+ *   19  a number of the list is not finite
+ *   20  the output is too short
  */
 #ifndef STEYRBUNK_H
 #define STEYRBUNK_H
@@ -50,6 +58,7 @@ extern "C" {
 #define STEYRBUNK_GREATEST_RAY_RADIUS 7u       /* radii in working pixels */
 #define STEYRBUNK_GREATEST_BLUR_RADIUS 3u
 #define STEYRBUNK_GREATEST_NMS_RADIUS 32u
+#define STEYRBUNK_GREATEST_RECORD_CORNERS 8388608u /* of a record */
 
 /* The default settings. */
 #define STEYRBUNK_RAY_RADIUS 4u
@@ -123,6 +132,33 @@ uint32_t steyrbunk_peaks(
     uint32_t min_cluster_size,
     float *list, size_t list_len,
     size_t *count
+);
+
+/* Records. A record keeps the corners of a frame and W and H, every number bit for bit, the sign of a
+ * zero too. Big-endian: a byte 1 for the version; four bytes, how many bytes follow these; W and H, two
+ * bytes each; four bytes, how many corners follow; x, y and strength of each, four bytes a number. There
+ * is one record for a list and its sizes, and no other is read as these. */
+
+/* Bytes of the record of so many corners. */
+#define STEYRBUNK_RECORD_BYTES(count) ((size_t)13 + (size_t)12 * (size_t)(count))
+
+/* The record of a list. Answers 0, 18, 19 and 20; with a refusal nothing is written to out. */
+uint32_t steyrbunk_write_record(
+    uint16_t w, uint16_t h,             /* W and H, as steyrbunk_find told them */
+    const float *list, size_t list_len, /* x, y and strength of each corner: list_len / 3 corners are written, so the length is
+                                           three times the count. Numbers left over are not looked at. */
+    uint8_t *out, size_t out_len,       /* gets the record, STEYRBUNK_RECORD_BYTES(list_len / 3) bytes; bytes beyond stay */
+    size_t *count,                      /* gets the number of corners in the record; 0 with a refusal */
+    size_t *ww, size_t *wh              /* get W and H; 0 with a refusal */
+);
+
+/* The list of a record. Answers 0 and 16 to 20; with a refusal nothing is written to list. */
+uint32_t steyrbunk_read_record(
+    const uint8_t *record, size_t record_len, /* the whole record and nothing behind it */
+    float *list, size_t list_len,             /* gets x, y and strength of each corner; three numbers a corner are needed, and a
+                                                 record that is taken has (record_len - 13) / 12 corners. Numbers beyond stay. */
+    size_t *count,                            /* gets the number of corners; 0 with a refusal */
+    size_t *w, size_t *h                      /* get W and H of the frame; 0 with a refusal */
 );
 
 /* The nearest float to the root of a finite number from +0 up; NaN of any other. */

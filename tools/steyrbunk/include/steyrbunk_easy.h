@@ -1,5 +1,5 @@
 /* steyrbunk_easy.h: the finder of steyrbunk.h with one workspace in place of seven buffers, settings as a
- * struct, and words for the answers. Everything here is inline C over steyrbunk_find; link libsteyrbunk_c.a.
+ * struct, and words for the answers. Everything here is inline C over the library; link libsteyrbunk_c.a.
  *
  *     steyrbunk_settings settings = steyrbunk_defaults();
  *     size_t bytes = steyrbunk_workspace(width, height, &settings);
@@ -9,6 +9,14 @@
  *     uint32_t answer = steyrbunk_find_in(image, image_len, width, height, &settings,
  *                                         workspace, bytes, list, 3 * 1024, &count);
  *     if (answer > 1) fprintf(stderr, "refused %u: %s\n", answer, steyrbunk_words(answer));
+ *
+ * and, where the answer was 0, to keep what was found and to read it back:
+ *
+ *     uint8_t *record = malloc(STEYRBUNK_RECORD_BYTES(count));
+ *     answer = steyrbunk_keep(width, height, &settings, list, count, record, STEYRBUNK_RECORD_BYTES(count));
+ *
+ *     float *kept = malloc(steyrbunk_kept(record_len) * 3 * sizeof(float));
+ *     answer = steyrbunk_read_record(record, record_len, kept, 3 * steyrbunk_kept(record_len), &count, &w, &h);
  */
 #ifndef STEYRBUNK_EASY_H
 #define STEYRBUNK_EASY_H
@@ -34,11 +42,15 @@ static inline steyrbunk_settings steyrbunk_defaults(void) {
     return settings;
 }
 
+/* The working side of an image's side, or 0 where it is refused. */
+static inline uint16_t steyrbunk_working_side(size_t side, const steyrbunk_settings *settings) {
+    size_t factor = settings->image_upsample < 2 ? 1 : 2;
+    return side > STEYRBUNK_GREATEST_SIDE ? 0 : (uint16_t)(factor * side);
+}
+
 /* Working pixels of an image, or 0 where the sizes are refused. */
 static inline size_t steyrbunk_working_pixels(size_t width, size_t height, const steyrbunk_settings *settings) {
-    size_t factor = settings->image_upsample < 2 ? 1 : 2;
-    if (width > STEYRBUNK_GREATEST_SIDE || height > STEYRBUNK_GREATEST_SIDE) return 0;
-    size_t pixels = factor * width * factor * height;
+    size_t pixels = (size_t)steyrbunk_working_side(width, settings) * steyrbunk_working_side(height, settings);
     return pixels > STEYRBUNK_GREATEST_WORKING ? 0 : pixels;
 }
 
@@ -71,6 +83,23 @@ static inline uint32_t steyrbunk_find_in(
         response, entries, scratch, entries, list, list_len, count, &w, &h);
 }
 
+/* The record of the corners that steyrbunk_find_in listed for an image of these sides, with answer 0: after answer 1 the list
+ * holds fewer than count. out needs STEYRBUNK_RECORD_BYTES(count) bytes. Answers 0, 18, 19 and 20, as steyrbunk_write_record. */
+static inline uint32_t steyrbunk_keep(
+    size_t width, size_t height, const steyrbunk_settings *settings, const float *list, size_t count,
+    uint8_t *out, size_t out_len) {
+    size_t written, w, h;
+    return steyrbunk_write_record(
+        steyrbunk_working_side(width, settings), steyrbunk_working_side(height, settings), list, 3 * count,
+        out, out_len, &written, &w, &h);
+}
+
+/* Corners of a record of so many bytes, if it is taken: the list for it needs three floats each. */
+static inline size_t steyrbunk_kept(size_t record_len) {
+    size_t corners = record_len < STEYRBUNK_RECORD_BYTES(0) ? 0 : (record_len - STEYRBUNK_RECORD_BYTES(0)) / 12;
+    return corners > STEYRBUNK_GREATEST_RECORD_CORNERS ? STEYRBUNK_GREATEST_RECORD_CORNERS : corners;
+}
+
 /* What an answer means. */
 static inline const char *steyrbunk_words(uint32_t answer) {
     switch (answer) {
@@ -85,6 +114,11 @@ static inline const char *steyrbunk_words(uint32_t answer) {
     case 8: return "the threshold is not a number from 0 to 1";
     case 9: return "a lent buffer is too short";
     case 14: return "the mode is neither 0 (parabolic) nor 1 (Gaussian)";
+    case 16: return "the record has under 13 bytes or not the length that it states";
+    case 17: return "the record's version is not 1";
+    case 18: return "the record's count and length disagree, or there are over 8,388,608 corners";
+    case 19: return "a number of the list is not finite";
+    case 20: return "the output is too short";
     default: return "an answer that this header does not know";
     }
 }

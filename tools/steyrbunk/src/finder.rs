@@ -140,7 +140,8 @@ fn working_pixels(image: Image, factor: usize) -> usize {
     }
 }
 
-fn corners(list: &[f32], count: usize) -> Vec<Corner> {
+/// The first corners of a list.
+pub(crate) fn corners(list: &[f32], count: usize) -> Vec<Corner> {
     let corner = |place: &[f32]| Corner {
         x: place[0],
         y: place[1],

@@ -32,7 +32,7 @@ pub struct View<'a> {
     pub height: usize,
 }
 
-/// Document 01's number, the corners found, and the working sizes; the last three are 0 with a refusal.
+/// The documents' number, the corners found, and the working sizes; the last three are 0 with a refusal.
 #[derive(Clone, Copy, Debug, Default, PartialEq, Eq)]
 pub struct Answer {
     pub number: u32,
@@ -57,6 +57,14 @@ impl Answer {
 
 /// What count and sizes hold before a call: the library writes them with every answer, so this is never seen.
 const UNWRITTEN: usize = usize::MAX;
+
+/// An answer before the library has told it.
+const UNTOLD: Answer = Answer {
+    number: 0,
+    count: UNWRITTEN,
+    width: UNWRITTEN,
+    height: UNWRITTEN,
+};
 
 /// An entry that takes an image and the buffers; what else it takes stands between them and behind.
 macro_rules! call {
@@ -184,6 +192,44 @@ pub fn peaks(view: View, settings: &Settings, list: &mut [f32]) -> Answer {
             list.as_mut_ptr(),
             list.len(),
             &mut answer.count,
+        )
+    };
+    answer
+}
+
+/// The record of a list, cut to whole corners, at the beginning of `out`; the sizes are the working image's.
+pub fn write_record(width: u16, height: u16, list: &[f32], out: &mut [u8]) -> Answer {
+    let mut answer = UNTOLD;
+    // SAFETY: as above.
+    answer.number = unsafe {
+        raw::steyrbunk_write_record(
+            width,
+            height,
+            list.as_ptr(),
+            list.len(),
+            out.as_mut_ptr(),
+            out.len(),
+            &mut answer.count,
+            &mut answer.width,
+            &mut answer.height,
+        )
+    };
+    answer
+}
+
+/// The list of a record at the beginning of `list`.
+pub fn read_record(record: &[u8], list: &mut [f32]) -> Answer {
+    let mut answer = UNTOLD;
+    // SAFETY: as above.
+    answer.number = unsafe {
+        raw::steyrbunk_read_record(
+            record.as_ptr(),
+            record.len(),
+            list.as_mut_ptr(),
+            list.len(),
+            &mut answer.count,
+            &mut answer.width,
+            &mut answer.height,
         )
     };
     answer

@@ -2,13 +2,15 @@
 //!
 //! [`Finder`] keeps the buffers, 25 bytes a working pixel, from frame to frame. [`lent`] is the layer
 //! beneath it, where the caller lends each buffer; [`raw`] is the C interface itself. [`limits`] has the
-//! greatest sizes and radii, [`scalar`] the finder's root and logarithm.
+//! greatest sizes and radii, [`scalar`] the finder's root and logarithm. [`mod@record`] keeps what was found as bytes and
+//! reads it back.
 
 mod finder;
 pub mod frame;
 pub mod lent;
 mod printed;
 pub mod raw;
+pub mod record;
 mod refusal;
 pub mod scalar;
 mod settings;

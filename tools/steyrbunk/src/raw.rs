@@ -59,6 +59,28 @@ extern "C" {
         count: *mut usize,
     ) -> u32;
 
+    pub fn steyrbunk_write_record(
+        w: u16,
+        h: u16,
+        list: *const f32,
+        list_len: usize,
+        out: *mut u8,
+        out_len: usize,
+        count: *mut usize,
+        ww: *mut usize,
+        wh: *mut usize,
+    ) -> u32;
+
+    pub fn steyrbunk_read_record(
+        record: *const u8,
+        record_len: usize,
+        list: *mut f32,
+        list_len: usize,
+        count: *mut usize,
+        w: *mut usize,
+        h: *mut usize,
+    ) -> u32;
+
     pub fn steyrbunk_sqrt(x: f32) -> f32;
 
     pub fn steyrbunk_ln(x: f32) -> f32;

@@ -1,4 +1,4 @@
-//! Refusals: document 01's numbers, each with a name and a sentence.
+//! Refusals: the documents' numbers, each with a name and a sentence.
 
 use std::{error, fmt};
 
@@ -17,13 +17,18 @@ pub enum Refusal {
     Version,
     StatedLength,
     Mode,
+    RecordLength,
+    RecordVersion,
+    CornerCount,
+    NotFinite,
+    OutputTooShort,
     /// A number that a newer library gives and this wrapper does not know.
     Unknown(u32),
 }
 
 use Refusal::*;
 
-const TABLE: [(u32, Refusal, &str); 13] = [
+const TABLE: [(u32, Refusal, &str); 18] = [
     (2, SideTooLong, "width or height is over 4,096 pixels"),
     (
         3,
@@ -49,6 +54,19 @@ const TABLE: [(u32, Refusal, &str); 13] = [
         Mode,
         "the mode is neither 0 (parabolic) nor 1 (Gaussian)",
     ),
+    (
+        16,
+        RecordLength,
+        "the record has under 13 bytes or not the length that it states",
+    ),
+    (17, RecordVersion, "the record's version is not 1"),
+    (
+        18,
+        CornerCount,
+        "the record's count and length disagree, or there are over 8,388,608 corners",
+    ),
+    (19, NotFinite, "a number of the list is not finite"),
+    (20, OutputTooShort, "the output is too short"),
 ];
 
 impl Refusal {

@@ -10,7 +10,7 @@ use std::{env, fs};
 
 use common::{frame, image};
 use judge::{Frame, Kind};
-use steyrbunk::{limits, Finder, PeakFit, Settings};
+use steyrbunk::{limits, record, Finder, PeakFit, Refusal, Settings};
 
 /// The example as a program.
 fn compiled(name: &str) -> Option<PathBuf> {
@@ -177,27 +177,25 @@ fn the_easy_calls() {
         String::from_utf8_lossy(&output.stderr)
     );
     assert_eq!(text, "all answers as they should be\n");
-    let (header, table) = (read("include/steyrbunk_easy.h"), read("src/refusal.rs"));
-    for line in table
-        .lines()
-        .filter(|line| line.trim_start().starts_with('('))
-    {
-        let Some((_, words)) = line.split_once('"') else {
-            continue;
-        };
-        let number: u32 = line
-            .trim_start_matches([' ', '('])
-            .split(',')
-            .next()
-            .expect("a number")
-            .parse()
-            .expect("digits");
-        if !(10..=13).contains(&number) {
-            assert!(
-                header.contains(words.split('"').next().expect("closed")),
-                "{number}"
-            );
-        }
+}
+
+/// C and Python have the wrapper's words for every answer that the library gives; 10 to 13 are for files, which it does not read.
+#[test]
+fn the_words() {
+    let (header, python) = (
+        read("include/steyrbunk_easy.h"),
+        read("../../python/steyrbunk.py"),
+    );
+    for number in (2..=20).filter(|number| ![10, 11, 12, 13, 15].contains(number)) {
+        let refusal = Refusal::from_number(number);
+        assert_ne!(refusal, Refusal::Unknown(number));
+        let sentence = refusal.sentence();
+        let (in_c, in_python) = (
+            format!("case {number}: return \"{sentence}\";"),
+            format!("    {number}: \"{sentence}\","),
+        );
+        assert!(header.contains(&in_c), "{in_c}");
+        assert!(python.contains(&in_python), "{in_python}");
     }
 }
 
@@ -255,7 +253,7 @@ fn read(name: &str) -> String {
 #[test]
 fn the_header_and_the_declarations() {
     let (header, raw) = (read("include/steyrbunk.h"), read("src/raw.rs"));
-    for name in ["find", "response", "peaks"] {
+    for name in ["find", "response", "peaks", "write_record", "read_record"] {
         let name = format!("steyrbunk_{name}");
         assert_eq!(in_c(&header, "uint32_t ", &name), in_rust(&raw, &name));
     }
@@ -289,6 +287,7 @@ fn the_header_and_the_limits() {
         ("GREATEST_RAY_RADIUS", limits::RAY),
         ("GREATEST_BLUR_RADIUS", limits::BLUR),
         ("GREATEST_NMS_RADIUS", limits::SUPPRESSION),
+        ("GREATEST_RECORD_CORNERS", limits::RECORD_CORNERS as u32),
         ("RAY_RADIUS", ray_radius),
         ("IMAGE_UPSAMPLE", image_upsample),
         ("RESPONSE_BLUR_RADIUS", response_blur_radius),
@@ -299,6 +298,12 @@ fn the_header_and_the_limits() {
     ] {
         assert_eq!(defined(name), format!("{value}u"), "{name}");
     }
+    let bytes = format!(
+        "STEYRBUNK_RECORD_BYTES(count) ((size_t){} + (size_t){} * (size_t)(count))",
+        record::HEAD,
+        record::CORNER
+    );
+    assert!(header.contains(&bytes), "{bytes}");
     assert_eq!(defined("THRESHOLD_REL"), format!("{threshold_rel}f"));
     assert_eq!(defined("PEAK_FIT"), "STEYRBUNK_GAUSSIAN");
     assert_eq!(peak_fit, PeakFit::Gaussian);
@@ -359,6 +364,7 @@ fn in_rust(raw: &str, name: &str) -> String {
     let mut list = String::new();
     let words = |kind: &str| match kind {
         "u8" => "uint8_t",
+        "u16" => "uint16_t",
         "u32" => "uint32_t",
         "usize" => "size_t",
         "f32" => "float",

@@ -1,4 +1,5 @@
-/* Every answer through steyrbunk_easy.h: workspaces of the right length and one byte less, and what they held before. */
+/* Every answer through steyrbunk_easy.h: workspaces and records of the right length and one byte less, and what they held
+ * before. */
 #include <stdio.h>
 #include <stdlib.h>
 #include <string.h>
@@ -32,6 +33,46 @@ static uint32_t find(steyrbunk_settings settings, size_t width, size_t height, s
     return answer;
 }
 
+/* Document 01's corner kept and read back, in buffers that end where they must: one byte or number less is refused. */
+static void records(const steyrbunk_settings *settings) {
+    float list[8] = {3, -0.0f, 160000, 1e-45f, 3.40282347e38f, -5, 0, 0};
+    list[6] = list[7] = (float)(1e300 * 1e300); /* left over, and not finite */
+    const uint8_t expected[25] = {1, 0, 0, 0, 20, 0, 7, 0, 14, 0, 0, 0, 1, 0x40, 0x40, 0, 0, 0x80, 0, 0, 0, 0x48, 0x1C, 0x40, 0};
+    size_t bytes = STEYRBUNK_RECORD_BYTES(1), count = 99, w = 99, h = 99;
+    uint8_t *record = malloc(bytes), *shorter = malloc(bytes - 1);
+    memset(record, 0x5A, bytes), memset(shorter, 0x5A, bytes - 1);
+    check(bytes == 25 && STEYRBUNK_RECORD_BYTES(0) == 13, "the bytes of a record");
+    check(STEYRBUNK_RECORD_BYTES(STEYRBUNK_GREATEST_RECORD_CORNERS) == 100663309, "the bytes of the greatest");
+    check(steyrbunk_keep(7, 14, settings, list, 1, shorter, bytes - 1) == 20 && shorter[0] == 0x5A, "20 of the writer");
+    check(steyrbunk_keep(7, 14, settings, list, 0, record, 13) == 0 && record[12] == 0 && record[13] == 0x5A, "a record of none");
+    check(steyrbunk_keep(7, 14, settings, list, 1, record, bytes) == 0 && memcmp(record, expected, bytes) == 0, "the record");
+    check(steyrbunk_working_side(4096, settings) == 4096 && steyrbunk_working_side(4097, settings) == 0, "working sides");
+
+    check(steyrbunk_kept(0) == 0 && steyrbunk_kept(12) == 0 && steyrbunk_kept(24) == 0 && steyrbunk_kept(25) == 1, "kept");
+    check(steyrbunk_kept((size_t)-1) == STEYRBUNK_GREATEST_RECORD_CORNERS, "kept, at most");
+    float *back = malloc(3 * sizeof(float));
+    check(steyrbunk_read_record(record, bytes, back, 3 * steyrbunk_kept(bytes), &count, &w, &h) == 0, "read");
+    check(count == 1 && w == 7 && h == 14 && memcmp(back, list, 3 * sizeof(float)) == 0, "as it was written");
+    back[0] = 7;
+    check(steyrbunk_read_record(record, bytes, back, 2, &count, &w, &h) == 20 && back[0] == 7, "20 of the reader");
+    check(count == 0 && w == 0 && h == 0, "a refusal has no count and no sizes");
+    check(steyrbunk_read_record(record, bytes - 1, back, 3, &count, &w, &h) == 16, "16");
+    check(steyrbunk_read_record(NULL, 0, NULL, 0, &count, &w, &h) == 16, "16 of nothing");
+    record[0] = 2, check(steyrbunk_read_record(record, bytes, back, 3, &count, &w, &h) == 17, "17"), record[0] = 1;
+    record[12] = 2, check(steyrbunk_read_record(record, bytes, back, 3, &count, &w, &h) == 18, "18"), record[12] = 1;
+    record[13] = 0x7F, record[14] = 0x80;
+    check(steyrbunk_read_record(record, bytes, back, 3, &count, &w, &h) == 19 && back[0] == 7, "19 of the reader");
+
+    /* Two whole corners and two numbers left over; none, and no list. */
+    uint8_t two[STEYRBUNK_RECORD_BYTES(2)];
+    check(steyrbunk_write_record(1, 2, list, 8, two, sizeof two, &count, &w, &h) == 0 && count == 2 && w == 1 && h == 2, "two");
+    check(steyrbunk_write_record(1, 2, list + 1, 7, two, sizeof two, &count, &w, &h) == 19 && count == 0, "19 of the writer");
+    check(steyrbunk_write_record(1, 2, NULL, 0, two, 13, &count, &w, &h) == 0 && count == 0 && w == 1, "no list");
+    check(steyrbunk_write_record(1, 2, NULL, 0, NULL, 0, &count, &w, &h) == 20, "no output");
+    check(steyrbunk_read_record(two, 13, NULL, 0, &count, &w, &h) == 0 && count == 0 && w == 1 && h == 2, "read into no list");
+    free(record), free(shorter), free(back);
+}
+
 int main(void) {
     for (int at = 0; at < 49; at++) {
         int side = (at % 7 - 3) * (at / 7 - 3);
@@ -63,6 +104,7 @@ int main(void) {
     other.nms_radius = 33, check(find(other, 7, 7, 49, 0, 1, &count, list) == 7, "7"), other = one;
     other.threshold_rel = 1.5f, check(find(other, 7, 7, 49, 0, 1, &count, list) == 8, "8"), other = one;
     other.peak_fit = 2, check(find(other, 7, 7, 49, 0, 1, &count, list) == 14, "14"), other = one;
+    records(&one);
     check(strcmp(steyrbunk_words(5), "the ray radius is over 7") == 0, "words");
     check(strcmp(steyrbunk_words(99), steyrbunk_words(15)) == 0, "words of what is not known");
     if (!wrong) puts("all answers as they should be");

@@ -451,8 +451,9 @@ fn the_lists_own_entry() {
 
 #[test]
 fn numbers_and_names() {
-    for number in 2..=14 {
+    for number in (2..=20).filter(|number| *number != 15) {
         let refusal = Refusal::from_number(number);
+        assert_ne!(refusal, Refusal::Unknown(number));
         assert_eq!(refusal.number(), number);
         assert_eq!(
             refusal.to_string(),
@@ -465,6 +466,7 @@ fn numbers_and_names() {
         (5, limits::RAY as usize),
         (6, limits::BLUR as usize),
         (7, limits::SUPPRESSION as usize),
+        (18, limits::RECORD_CORNERS),
     ] {
         let sentence = Refusal::from_number(number).sentence().replace(',', "");
         let said = sentence.split(' ').any(|word| word == limit.to_string());
