@@ -1,12 +1,12 @@
 // A line's text, appended piece by piece.
 use crate::Line;
+use big_endian::bits;
 ghost use mathlib.Core.Bool.{_&&_};
 ghost use mathlib.Core.List.{List, [], _∷_, _++_};
 ghost use mathlib.Core.Path.{_≡_};
 ghost use Prim.Native.Nat.{_+_, _-_, _≤_, _<_};
 ghost use lib.Dec.{ltb, leb};
 ghost use lib.ListN.{length};
-ghost use lib.Ieee.{binary32, toBits};
 ghost use Rattle.lines.specs.Printed.{digitOf, numeral, row, refusedLine, firstLine, cornerLine, fullLine};
 ghost use Rattle.lines.specs.Lines.{Shows, Short, blank, appended, Grown};
 
@@ -101,16 +101,6 @@ fn three(base: usize, least: usize, a: usize, b: usize, c: usize) -> Line
     let line = field(empty(), base, least, a, BLANK);
     let line = field(line, base, least, b, BLANK);
     field(line, base, least, c, LINE_FEED)
-}
-
-// The bits of a float. A NaN has no bits of its own: here they are 7FC00000.
-fn bits(x: f32) -> u32
-    ensures { λ r. ⌜ r ≡ toBits binary32 x ⌝ }
-{
-    if x == x {
-        return f32::to_bits(x);
-    }
-    0x7fc0_0000
 }
 
 // A refusal's only line.

@@ -1,3 +1,2 @@
 -- Laws of what stands in a list of vectors, over plain variables.
 pub mod Places
-pub mod Patterns

@@ -2,7 +2,7 @@
 use mathlib.Core.Path.{_≡_, refl, sym}
 use mathlib.Core.Bool.{true, false, _&&_}
 use mathlib.Core.List.{List, [], _∷_}
-use Prim.Native.Nat.{ℕ, zero, suc, _+_, _-_, _*_, _≤_, _<_}
+use Prim.Native.Nat.{ℕ, zero, suc, _+_, _-_, _≤_, _<_}
 use native.Mathlib.Nat.{le-of-suc-le-suc, not-suc-le-zero}
 use native.Mathlib.Numerals.{add-one}
 use native.Mathlib.Omega.{arith}
@@ -11,6 +11,7 @@ use borrow.Author.Tests.{le-leb, lt-leb, eq-eqb, ne-eqb}
 use lib.Dec.{leb}
 use lib.ListN.{length, getD, take, drop, drop-of-length-le, List·getD-eq-default}
 use lib.Seq.{drop-cons, drop-length, take-nil}
+use Rattle.big_endian.specs.BigEndian as big
 use Rattle.vectors.specs.Vectors.{noWord, wordAt, partOf, partStart, Part, afterLine}
 
 -- ---- an entry, with one default or another
@@ -29,13 +30,9 @@ pub no-word : (s : List ℕ) (at : ℕ) → length s < at + 4 → noWord ≡ wor
 unfolding wordAt
 no-word s at h = rw (lt-leb (at + 4) (length s) h)
 
-pub word-found : (s : List ℕ) (at : ℕ) {a b : ℕ} → at + 4 ≤ length s
-    → a ≡ getD s at 0 * 256 + getD s (at + 1) 0 → b ≡ getD s (at + 2) 0 * 256 + getD s (at + 2 + 1) 0
-    → a * 65536 + b ≡ wordAt s at
+pub word-found : (s : List ℕ) (at : ℕ) {a : ℕ} → at + 4 ≤ length s → a ≡ big.wordAt s at → a ≡ wordAt s at
 unfolding wordAt
-word-found s at h p q =
-    let e : at + 2 + 1 ≡ at + 3 = omega arith in
-    rw (le-leb (at + 4) (length s) h, p, q, e) (omega arith)
+word-found s at h e = rw (le-leb (at + 4) (length s) h) e
 
 -- ---- a part
 

@@ -2,12 +2,13 @@
 use mathlib.Core.Path.{_≡_}
 use mathlib.Core.Bool.{cond, _&&_}
 use mathlib.Core.List.{List, [], _∷_}
-use Prim.Native.Nat.{ℕ, suc, _+_, _-_, _*_, min}
+use Prim.Native.Nat.{ℕ, suc, _+_, _-_, min}
 use Prim.Native.Char.{code}
 use denote.Ref.{RefT, now, ptr}
 use lib.Dec.{leb, ltb, eqb}
 use lib.Ieee.{Float, nan, binary32, ofBits, toBits}
 use lib.ListN.{length, getD, take, drop, replicate}
+use Rattle.big_endian.specs.BigEndian as big
 
 unfoldable pub zeros : ℕ → List ℕ
 zeros n = replicate n 0
@@ -21,10 +22,7 @@ noWord = 4294967296
 
 -- four bytes, the highest first
 unfoldable pub wordAt : List ℕ → ℕ → ℕ
-wordAt s at =
-    cond (leb (at + 4) (length s))
-    (getD s at 0 * 16777216 + getD s (at + 1) 0 * 65536 + getD s (at + 2) 0 * 256 + getD s (at + 3) 0)
-    noWord
+wordAt s at = cond (leb (at + 4) (length s)) (big.wordAt s at) noWord
 
 -- the bytes from a place to another; none where that is no part, and then they stand at the end
 unfoldable pub partOf : List ℕ → ℕ → ℕ → List ℕ

@@ -2,10 +2,10 @@
 // then records of big-endian numbers, as tools/judge/README.md says. No read goes past its end.
 ghost use mathlib.Core.Path.{_≡_};
 ghost use mathlib.Core.Bool.{cond};
-ghost use Prim.Native.Nat.{_+_, _*_, _≤_, min};
+ghost use Prim.Native.Nat.{_+_, _≤_, min};
 ghost use lib.Dec.{eqb, leb};
-ghost use lib.ListN.{length, getD};
-ghost use lib.Ieee.{binary32, toBits, ofBits};
+ghost use lib.ListN.{length};
+ghost use lib.Ieee.{binary32, toBits};
 ghost use Rattle.vectors.specs.Vectors.{zeros, byteAt, wordAt, Part, afterLine, behindOf, floatOf, floatAt, entryAt};
 ghost use Rattle.vectors.specs.Counts.{sum, differs};
 
@@ -36,14 +36,6 @@ pub fn byte(s: &[u8], at: usize) -> u64
     if at < s.len() { wide(s[at]) } else { NO_BYTE }
 }
 
-// Two bytes that are there, the higher first.
-fn half(s: &[u8], at: usize) -> u64
-    requires { ⌜ at + 2 ≤ length (now s) ⌝ }
-    ensures { λ r. ⌜ (r ≡ getD (now (s .entry)) at 0 * 256 + getD (now (s .entry)) (at + 1) 0) × (r ≤ 65535) ⌝ }
-{
-    wide(s[at]) * 256 + wide(s[at + 1])
-}
-
 // The four bytes at a place as a number, the highest first.
 pub fn word(s: &[u8], at: usize) -> u64
     ensures value { λ r. ⌜ r ≡ wordAt (now (s .entry)) at ⌝ }
@@ -55,7 +47,7 @@ pub fn word(s: &[u8], at: usize) -> u64
     if s.len() - at < 4 {
         return NO_WORD;
     }
-    half(s, at) * 65536 + half(s, at + 2)
+    wide32(big_endian::word_at(s, at))
 }
 
 // The place n bytes further, and the end at most.
@@ -118,10 +110,7 @@ pub fn bits(x: f32) -> u64
     ensures value { λ r. ⌜ r ≡ toBits binary32 x ⌝ }
     ensures most { λ r. ⌜ r ≤ 4294967295 ⌝ }
 {
-    if x != x {
-        return 2143289344;
-    }
-    wide32(f32::to_bits(x))
+    wide32(big_endian::bits(x))
 }
 
 fn wide32(x: u32) -> u64
@@ -135,16 +124,7 @@ pub fn float(bits: u64) -> f32
     ensures { λ r. ⌜ r ≡ floatOf bits ⌝ }
 {
     if bits < NO_WORD {
-        return float32(bits as u32);
-    }
-    0.0 / 0.0
-}
-
-fn float32(bits: u32) -> f32
-    ensures { λ r. ⌜ r ≡ ofBits binary32 bits ⌝ }
-{
-    if bits % 0x8000_0000 <= 0x7f80_0000 {
-        return f32::from_bits(bits);
+        return big_endian::float(bits as u32);
     }
     0.0 / 0.0
 }
