@@ -9,17 +9,32 @@ use lib.ListN.{length}
 use lib.Seq.{sets}
 use Rattle.grid.specs.Fill.{filled}
 use Rattle.grid.specs.Over.{over}
-use Rattle.grid.proofs.Over.{length-over}
 use Rattle.big_endian.specs.BigEndian.{halfAt}
 use Rattle.params.specs.declared.answers.Answer.{Answer}
 use Rattle.params.specs.declared.answers.Outcome.{Outcome}
 use Rattle.params.specs.Answers.{numberOf, refused}
 use Rattle.record.specs.Record.{most, head, headOf, cornersIn, wholeOf, bytesOf, recordOf, writeRefusal, writeOutcome, written}
 use Rattle.record.specs.Record.{countIn, numberIn, readRefusal, readOutcome, readBack}
-use Rattle.record.proofs.Taken.{refused-told, taken-told, refused-leaves, taken-leaves, WriteTaken, write-known, ReadTaken, read-known}
+use Rattle.record.proofs.Taken.{refused-told, taken-told, refused-leaves, taken-leaves, WriteTaken, write-known, read-known}
 use Rattle.record.proofs.Puts.{record-put}
 
--- a is what the judge said, and n its number
+-- a is what the judge said, and n its number; where that is 0, what putting and storing require
+
+module _ (k : ℕ) (list : List Float) (room : ℕ) {a : Answer} (judged : a ≡ writeRefusal k list room) {n : ℕ} (is : n ≡ numberOf a) (z : n ≡ 0) where
+  may-write : WriteTaken k list room
+  may-write = write-known k list room (ap numberOf (sym judged) ∙ sym is ∙ z)
+
+  pub head-may : (head ≤ room) × (cornersIn k list ≤ most)
+  head-may = (omega (arith, may-write .fits), may-write .few)
+
+  pub numbers-may : {long : ℕ} → long ≡ room → (k * cornersIn k list ≤ length list) × (head + 4 * (k * cornersIn k list) ≤ long)
+  numbers-may e = (mul-div-le (length list) k, rw e (may-write .fits))
+
+pub fill-may : (v k : ℕ) (file : List ℕ) (room : ℕ) {a : Answer} → a ≡ readRefusal v k file room → {n : ℕ} → n ≡ numberOf a → n ≡ 0
+    → {count : ℕ} → count ≡ countIn file → k * count ≤ room
+fill-may v k file room judged is z e = rw e (read-known v k file room (ap numberOf (sym judged) ∙ sym is ∙ z) .fits)
+
+-- what is answered and left
 
 module _ (v k w h : ℕ) (list : List Float) (old : List ℕ) {a : Answer} (judged : a ≡ writeRefusal k list (length old))
     {n : ℕ} (is : n ≡ numberOf a) where
@@ -29,17 +44,6 @@ module _ (v k w h : ℕ) (list : List Float) (old : List ℕ) {a : Answer} (judg
   write-refused z e = rw (← judged) (refused-told a is z e (cornersIn k list) w h, refused-leaves a is z (over (recordOf v k w h list) old) old)
 
   module _ (z : n ≡ 0) where
-    may-write : WriteTaken k list (length old)
-    may-write = write-known k list (length old) (ap numberOf (sym judged) ∙ sym is ∙ z)
-
-    -- what putting the head requires, and then the numbers
-    pub head-may : (head ≤ length old) × (cornersIn k list ≤ most)
-    head-may = (omega (arith, may-write .fits), may-write .few)
-
-    pub numbers-may : {mid : List ℕ} → mid ≡ over (headOf v k w h (cornersIn k list)) old
-        → (k * cornersIn k list ≤ length list) × (head + 4 * (k * cornersIn k list) ≤ length mid)
-    numbers-may e = (mul-div-le (length list) k, rw (e, length-over) (may-write .fits))
-
     -- the head is put, and then the numbers
     pub write-done : {mid out : List ℕ} → mid ≡ over (headOf v k w h (cornersIn k list)) old → out ≡ sets mid head (bytesOf (wholeOf k list))
         → (record { answer = a; count = cornersIn k list; w = w; h = h } ≡ writeOutcome k w h list (length old)) × (out ≡ written v k w h list old)
@@ -62,13 +66,6 @@ module _ (v k : ℕ) (file : List ℕ) (old : List Float) {a : Answer} (judged :
       )
 
   module _ (z : n ≡ 0) where
-    may-read : ReadTaken v k file (length old)
-    may-read = read-known v k file (length old) (ap numberOf (sym judged) ∙ sym is ∙ z)
-
-    -- what storing the numbers requires
-    pub fill-may : {count : ℕ} → count ≡ countIn file → k * count ≤ length old
-    fill-may e = rw e (may-read .fits)
-
     -- the numbers are stored, and the sides are read
     pub read-done : {count w h : ℕ} {out : List Float} → count ≡ countIn file → w ≡ halfAt file 5 → h ≡ halfAt file 7
         → out ≡ filled (k * count) (numberIn file) old

@@ -1,17 +1,10 @@
 -- `record::reader::read_record` meets its contract: what the judge refuses is left, and all else is read. Assumes nothing.
 use native.Mathlib.Omega.{arith}
-use mathlib.Core.List.{List}
-use denote.Ref.{now}
 use borrow.Author.Needs.{needs}
-use lib.Ieee.{Float}
 use Rattle.record.specs.Record.{version, stride}
 use Rattle.record.proofs.Calls.{read-refused, fill-may, read-done}
 use Rattle.record.proofs.reader.read_record.Statement.{statement}
 use Rattle.record.proofs.reader.read_record.Tie as tie
-
--- what was lent
-abbrev list : tie.After-judge-record → List Float
-list c = now (c .before .before .before .args .list)
 
 judge-record-requires : tie.Need-judge-record-requires
 judge-record-requires c κs = search needs
@@ -39,10 +32,8 @@ fill-requires c κs =
     let n = c .before in
     let e = n .before in
     let m = e .before in
-    let j = m .before in (
-      fill-may version stride _ (list j) (j .judge-record .ensures) (m .number .ensures) (e .if1 .left) (n .count-in .ensures .0),
-      omega arith,
-    )
+    let fits = fill-may version stride _ _ (m .before .judge-record .ensures) (m .number .ensures) (e .if1 .left) (n .count-in .ensures .0) in
+    (fits, omega arith)
 
 half-at-requires : tie.Need-half-at-requires
 half-at-requires c κs = search needs

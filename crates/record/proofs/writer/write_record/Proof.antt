@@ -1,17 +1,14 @@
 -- `record::writer::write_record` meets its contract: what the judge refuses is left, and all else is put. Assumes nothing.
-use mathlib.Core.List.{List}
-use Prim.Native.Nat.{ℕ}
-use denote.Ref.{now}
+use mathlib.Core.Path.{ap, _∙_}
 use borrow.Author.Needs.{needs}
+use lib.ListN.{length}
+use Rattle.grid.proofs.Over.{length-over}
 use Rattle.record.specs.Record.{version, stride}
 use Rattle.record.proofs.Calls.{write-refused, head-may, numbers-may, write-done}
 use Rattle.record.proofs.writer.write_record.Statement.{statement}
 use Rattle.record.proofs.writer.write_record.Tie as tie
 
--- what was lent, and the way back from the numbers to the head
-abbrev output : tie.After-judge-list → List ℕ
-output c = now (c .before .before .before .args .out)
-
+-- the way back from the numbers to the head
 abbrev headed : tie.After-put-numbers → tie.After-put-head
 headed c = c .before .before .before .before
 
@@ -34,7 +31,7 @@ put-head-requires : tie.Need-put-head-requires
 put-head-requires c κs =
     let e = c .before in
     let m = e .before in
-    head-may version stride 0 0 _ (output (m .before)) (m .before .judge-list .ensures) (m .number .ensures) (e .if1 .left)
+    head-may stride _ _ (m .before .judge-list .ensures) (m .number .ensures) (e .if1 .left)
 
 mul-put-numbers : tie.Need-mul-put-numbers
 mul-put-numbers c = search needs
@@ -44,7 +41,7 @@ put-numbers-requires c κs =
     let d = c .before .before .before in
     let e = d .before .before in
     let m = e .before in
-    numbers-may version stride _ _ _ _ (m .before .judge-list .ensures) (m .number .ensures) (e .if1 .left) (d .put-head .ensures)
+    numbers-may stride _ _ (m .before .judge-list .ensures) (m .number .ensures) (e .if1 .left) (ap length (d .put-head .ensures) ∙ length-over _ _)
 
 same-length : tie.Need-same-length
 same-length c = search needs
