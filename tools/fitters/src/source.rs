@@ -48,6 +48,14 @@ impl Source {
             Some(path) => console::read(path, longest),
             None => console::read_input(longest),
         };
-        file?.ok_or(Problem::Refused(Refusal::FileTooLong))
+        file?.ok_or_else(|| self.too_long())
+    }
+
+    /// A record that long is read to no end, so the reader is not asked and there is no number.
+    fn too_long(self) -> Problem {
+        match self {
+            Source::Frames => Problem::Refused(Refusal::FileTooLong),
+            Source::Records => Problem::Damaged("longer than any record that is taken".to_string()),
+        }
     }
 }

@@ -795,7 +795,7 @@ fn long_records() {
     sparse("more.record", most + 1, 13 + 12 * u64::from(most + 1));
     sparse("behind.record", most, 14 + 12 * u64::from(most));
     sparse("long.record", 0, 1 << 40);
-    for (name, number) in [("more", 18), ("behind", 16), ("long", 10)] {
+    for (name, number) in [("more", 18), ("behind", 16)] {
         let output = run(&folder, &["read", &format!("{name}.record")]);
         assert_eq!(
             (out(&output), status(&output)),
@@ -803,6 +803,9 @@ fn long_records() {
             "{name}"
         );
     }
+    let output = run(&folder, &["read", "long.record"]);
+    assert_eq!((out(&output), status(&output)), (String::new(), 1));
+    assert!(error(&output).contains("long.record: longer than any record that is taken"));
     fs::remove_dir_all(&folder).unwrap();
 }
 
