@@ -37,7 +37,8 @@ returns : tie.Need-returns Inv-loop μ-loop
 returns c =
     let f = c .before in
     let t = in-loop f in
-    sought-found _ (t .before .loop .inv) (t .loop-test .taken) (not-by (f .is-finite .ensures ∙ ap finite (f .before .number-in .ensures)) (c .if1 .taken))
+    sought-found _ (t .before .loop .inv) (t .loop-test .taken)
+    (not-by (f .is-finite .ensures ∙ ap finite (f .before .number-in .ensures)) (c .if1 .taken))
 
 add-i : tie.Need-add-i Inv-loop μ-loop
 add-i c = omega arith
@@ -49,7 +50,8 @@ loop-again : tie.Need-loop-again Inv-loop μ-loop
 loop-again c =
     let f = c .before in
     let t = in-loop f in
-    sought-more _ (t .before .loop .inv) (t .loop-test .taken) (not-by (f .is-finite .ensures ∙ ap finite (f .before .number-in .ensures)) (c .if1 .left))
+    sought-more _ (t .before .loop .inv) (t .loop-test .taken)
+    (not-by (f .is-finite .ensures ∙ ap finite (f .before .number-in .ensures)) (c .if1 .left))
 
 returns-2 : tie.Need-returns-2 Inv-loop μ-loop
 returns-2 c = sought-all _ (c .before .loop .inv) (c .loop-test .left)

@@ -52,7 +52,8 @@ returns-2 c =
     let d = headed p in
     let e = d .before .before in
     let m = e .before in
-    write-done version stride _ _ _ _ (m .before .judge-list .ensures) (m .number .ensures) (e .if1 .left) (d .put-head .ensures) (p .put-numbers .ensures)
+    write-done version stride _ _ _ _ (m .before .judge-list .ensures) (m .number .ensures) (e .if1 .left)
+    (d .put-head .ensures) (p .put-numbers .ensures)
 
 pub write-record-spec : {M : Type 1} → statement M
 write-record-spec =
