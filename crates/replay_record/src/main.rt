@@ -158,7 +158,7 @@ fn read(file: &[u8], s: &[u8], at: usize, due: usize) -> Answered {
     let mut list = old_list();
     let room = vectors::capped(field(s, at, 12), NUMBERS);
     let outcome = record::read_record(file, &mut list[0..room]);
-    against(outcome, s, at, list_differs(&list, s, due))
+    against(outcome, s, at, list_differs(list, s, due))
 }
 
 fn old_list() -> [f32; 1024] {
@@ -174,7 +174,7 @@ fn written(patterns: &[u8], s: &[u8], at: usize, due: usize) -> Answered {
     let w = side(s, at, 4);
     let h = side(s, at, 8);
     let outcome = record::write_record(w, h, &list[0..n], &mut out[0..room]);
-    against(outcome, s, at, output_differs(&out, s, due))
+    against(outcome, s, at, output_differs(out, s, due))
 }
 
 // The numbers of these patterns. NaNs are all one NaN, and so is what stands behind the last pattern.
@@ -211,33 +211,17 @@ fn against(outcome: Outcome, s: &[u8], at: usize, others: usize) -> Answered {
 }
 
 // The numbers that are due, and behind them those that were there before.
-fn list_differs(list: &[f32; 1024], s: &[u8], due: usize) -> usize {
+fn list_differs(list: [f32; 1024], s: &[u8], due: usize) -> usize {
     let n = vectors::capped(vectors::word(s, due), BYTES) / 4;
-    let c = replay::floats(s, vectors::skip(s, due, 4), list, n);
-    vectors::plus(c.wrong, list_changed(list, n))
-}
-
-fn list_changed(list: &[f32], from: usize) -> usize {
-    if from > list.len() {
-        return 1;
-    }
-    let old = [OLD; 4096];
-    let c = replay::floats(&old, 0, &list[from..], list.len() - from);
-    c.wrong
+    let due = replay::floats(s, vectors::skip(s, due, 4), &list, n);
+    let kept = replay::floats(&[OLD; 4096], 0, &list[n..], NUMBERS - n);
+    vectors::plus(due.wrong, kept.wrong)
 }
 
 // The bytes that are due, and behind them those that were there before.
-fn output_differs(out: &[u8; 4096], s: &[u8], due: usize) -> usize {
+fn output_differs(out: [u8; 4096], s: &[u8], due: usize) -> usize {
     let n = vectors::capped(vectors::word(s, due), BYTES);
-    let c = replay::bytes(s, vectors::skip(s, due, 4), out, n);
-    vectors::plus(c.wrong, output_changed(out, n))
-}
-
-fn output_changed(out: &[u8], from: usize) -> usize {
-    if from > out.len() {
-        return 1;
-    }
-    let old = [OLD; 4096];
-    let c = replay::bytes(&old, 0, &out[from..], out.len() - from);
-    c.wrong
+    let due = replay::bytes(s, vectors::skip(s, due, 4), &out, n);
+    let kept = replay::bytes(&[OLD; 4096], 0, &out[n..], BYTES - n);
+    vectors::plus(due.wrong, kept.wrong)
 }
