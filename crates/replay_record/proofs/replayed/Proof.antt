@@ -13,12 +13,6 @@ abbrev μ-loop : tie.MeasureT-loop
 start-requires : tie.Need-start-requires Inv-loop μ-loop
 start-requires c κs = search needs
 
-none-requires : tie.Need-none-requires Inv-loop μ-loop
-none-requires c κs = search needs
-
-none-requires-2 : tie.Need-none-requires-2 Inv-loop μ-loop
-none-requires-2 c κs = search needs
-
 loop-holds : tie.Need-loop-holds Inv-loop μ-loop
 loop-holds c = search needs
 
@@ -31,28 +25,22 @@ vector-requires c κs = search needs
 after-requires : tie.Need-after-requires Inv-loop μ-loop
 after-requires c κs = search needs
 
-with-requires : tie.Need-with-requires Inv-loop μ-loop
-with-requires c κs = search needs
+count-requires : tie.Need-count-requires Inv-loop μ-loop
+count-requires c κs = search needs
 
-with-requires-2 : tie.Need-with-requires-2 Inv-loop μ-loop
-with-requires-2 c κs = search needs
+count-requires-2 : tie.Need-count-requires-2 Inv-loop μ-loop
+count-requires-2 c κs = search needs
 
 loop-less : tie.Need-loop-less Inv-loop μ-loop
 loop-less c =
-    let w = c .before .before in
+    let w = c .before .before .before .before in
     fewer _ _ _ _ _ (w .before .before .before .more .ensures) (w .before .before .if1 .taken) (w .after .ensures)
 
 loop-again : tie.Need-loop-again Inv-loop μ-loop
 loop-again c = search needs
 
-head-requires : tie.Need-head-requires Inv-loop μ-loop
-head-requires c κs = search needs
-
-tell-reads-requires : tie.Need-tell-reads-requires Inv-loop μ-loop
-tell-reads-requires c κs = search needs
-
-tell-writes-requires : tie.Need-tell-writes-requires Inv-loop μ-loop
-tell-writes-requires c κs = search needs
+report-requires : tie.Need-report-requires Inv-loop μ-loop
+report-requires c κs = search needs
 
 returns : tie.Need-returns Inv-loop μ-loop
 returns c = search needs
@@ -64,17 +52,13 @@ replayed-spec =
     Inv-loop
     μ-loop
     start-requires
-    none-requires
-    none-requires-2
     loop-holds
     more-requires
     vector-requires
     after-requires
-    with-requires
-    with-requires-2
+    count-requires
+    count-requires-2
     loop-less
     loop-again
-    head-requires
-    tell-reads-requires
-    tell-writes-requires
+    report-requires
     returns)
