@@ -32,7 +32,8 @@ most = 8388608
 abbrev pub stray : Float → Bool
 stray x = not (finite x)
 
--- with a refusal "count, W and H are 0"; otherwise that many corners and those sides
+-- "With every refusal, later ones too, W and H are reported as 0" (document 01), and the count is 0; otherwise that many
+-- corners and those sides
 abbrev pub outcomeWith : Answer → ℕ → ℕ → ℕ → Outcome
 outcomeWith a n w h = cond (eqb (numberOf a) 0) (record { answer = a; count = n; w = w; h = h }) (refused a)
 
