@@ -7,6 +7,10 @@ use Rattle.record.proofs.Taken.{head-refuses, stray-refuses, room-refus
 use Rattle.record.proofs.reader.judge_record.Statement.{statement}
 use Rattle.record.proofs.reader.judge_record.Tie as tie
 
+-- the way back from the numbers to what the first three stages came to
+abbrev headed : tie.After-stray-in-record → tie.After-number
+headed c = c .before .before .before
+
 judge-head-requires : tie.Need-judge-head-requires
 judge-head-requires c κs = search needs
 
@@ -31,27 +35,24 @@ returns-2 : tie.Need-returns-2
 returns-2 c =
     let s = c .before in
     let n = s .before in
-    let e = n .before in
-    let m = e .before in
-    stray-refuses version stride _ _ (m .before .judge-head .ensures) (m .number .ensures) (e .if1 .left)
+    let m = headed s in
+    stray-refuses version stride _ _ (m .before .judge-head .ensures) (m .number .ensures) (n .before .if1 .left)
     (ap (stride *_) (n .count-in .ensures .0)) (s .stray-in-record .ensures) (c .if2 .taken)
 
 returns-3 : tie.Need-returns-3
 returns-3 c =
     let s = c .before .before in
     let n = s .before in
-    let e = n .before in
-    let m = e .before in
-    room-refuses version stride _ _ (m .before .judge-head .ensures) (m .number .ensures) (e .if1 .left)
+    let m = headed s in
+    room-refuses version stride _ _ (m .before .judge-head .ensures) (m .number .ensures) (n .before .if1 .left)
     (ap (stride *_) (n .count-in .ensures .0)) (s .stray-in-record .ensures) (c .before .if2 .left) (c .if3 .taken)
 
 returns-4 : tie.Need-returns-4
 returns-4 c =
     let s = c .before .before in
     let n = s .before in
-    let e = n .before in
-    let m = e .before in
-    taken version stride _ _ (m .before .judge-head .ensures) (m .number .ensures) (e .if1 .left)
+    let m = headed s in
+    taken version stride _ _ (m .before .judge-head .ensures) (m .number .ensures) (n .before .if1 .left)
     (ap (stride *_) (n .count-in .ensures .0)) (s .stray-in-record .ensures) (c .before .if2 .left) (c .if3 .left)
 
 pub judge-record-spec : {M : Type 1} → statement M

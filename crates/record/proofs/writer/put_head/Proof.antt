@@ -3,7 +3,7 @@ use mathlib.Core.Path.{ap, _∙_}
 use borrow.Author.Needs.{needs}
 use lib.ListN.{length}
 use Rattle.grid.proofs.Over.{length-over}
-use Rattle.record.specs.Record.{version}
+use Rattle.record.specs.Record.{version, stride, following}
 use Rattle.record.proofs.Puts.{head-put}
 use Rattle.record.proofs.writer.put_head.Statement.{statement}
 use Rattle.record.proofs.writer.put_head.Tie as tie
@@ -55,8 +55,9 @@ returns c =
     let w = wide h in
     let l = stated w in
     let f = l .before in
-    head-put version _ _ _ _ _ (start f .pre .0) (f .follows .ensures) (l .put-word .ensures) (w .put-half .ensures)
-    (h .put-half2 .ensures) (n .put-word2 .ensures)
+    let o = start f .args in
+    head-put version (following stride (o .count)) (o .w) (o .h) (o .count) _ (start f .pre .0) (f .follows .ensures)
+    (l .put-word .ensures) (w .put-half .ensures) (h .put-half2 .ensures) (n .put-word2 .ensures)
 
 same-length : tie.Need-same-length
 same-length c = ap length (returns c) ∙ length-over _ _
