@@ -5,12 +5,11 @@ ghost use Rattle.frame_runner.specs.FileAnswer.{fileOutcome, fileBuffers
 use frame::Reading;
 use params::Outcome;
 
-// The bytes of the longest frame file: 20 before the pixels, and 2,304 pixels.
-const LIMIT: usize = 2324;
-
-// What a frame file is answered, over buffers that the caller lends: the file's own refusal, or what the finder makes of its frame.
+// What a frame file is answered, over buffers that the caller lends: the file's own refusal, 10 where it has more than `limit` bytes, or what the
+// finder makes of its frame.
 pub fn run_frame_file(
     file: &[u8],
+    limit: usize,
     working: &mut [u8],
     row: &mut [u32],
     col: &mut [u32],
@@ -20,16 +19,16 @@ pub fn run_frame_file(
     scratch: &mut [f32],
     list: &mut [f32],
 ) -> Outcome
-    ensures answer { λ r. ⌜ r ≡ fileOutcome (now (file .entry))
+    ensures answer { λ r. ⌜ r ≡ fileOutcome limit (now (file .entry))
         (lent (now (working .entry)) (now (row .entry)) (now (col .entry)) (now (falling .entry))
         (now (rising .entry)) (now (response .entry)) (now (scratch .entry)) (now (list .entry))) ⌝ }
     ensures buffers { λ _. ⌜ lent (now (working .exit)) (now (row .exit)) (now (col .exit)) (now (falling .exit))
         (now (rising .exit)) (now (response .exit)) (now (scratch .exit)) (now (list .exit))
-        ≡ fileBuffers (now (file .entry))
+        ≡ fileBuffers limit (now (file .entry))
         (lent (now (working .entry)) (now (row .entry)) (now (col .entry)) (now (falling .entry))
         (now (rising .entry)) (now (response .entry)) (now (scratch .entry)) (now (list .entry))) ⌝ }
 {
-    let reading = frame::read(file, LIMIT);
+    let reading = frame::read(file, limit);
     match reading {
         Reading::Refused(answer) => Outcome::refusal(answer),
         Reading::Frame(header) => radon::radon_corners_u8(

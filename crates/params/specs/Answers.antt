@@ -1,5 +1,5 @@
--- Document 01, "What comes back" and "Frame file and printed list", and document 02, ticket 1, from 16 on: the number of
--- each answer.
+-- Document 01, "What comes back" and "Frame file and printed list", and document 02's tickets from 16 on: the number of each
+-- answer.
 use Prim.Native.Nat.{ℕ}
 use Rattle.params.specs.declared.answers.Answer.{Answer}
 use Rattle.params.specs.declared.answers.Outcome.{Outcome}
@@ -26,6 +26,7 @@ numberOf answer.RecordVersion = 17
 numberOf answer.CornerCount = 18
 numberOf answer.NotFinite = 19
 numberOf answer.OutputTooShort = 20
+numberOf answer.Cameras = 21
 
 -- "With every refusal, later ones too, W and H are reported as 0", and the count is 0
 abbrev pub refused : Answer → Outcome

@@ -45,6 +45,8 @@ pub enum Answer {
     NotFinite,
     // 20: an output too short for what is to be written into it
     OutputTooShort,
+    // 21: a camera count that is not 2 to 8, or a list with less than one corner a camera
+    Cameras,
 }
 
 impl Answer {
@@ -73,6 +75,7 @@ impl Answer {
             Answer::CornerCount => 18,
             Answer::NotFinite => 19,
             Answer::OutputTooShort => 20,
+            Answer::Cameras => 21,
         }
     }
 

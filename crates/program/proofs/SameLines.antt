@@ -24,8 +24,8 @@ use Rattle.response.specs.Map.{roomOf}
 use Rattle.radon.specs.Finder.{Buffers, answered, outcomeOf, buffersOf}
 use Rattle.radon.proofs.Left.{left-is}
 use Rattle.radon.proofs.Demands.{refusal-leaves-all, same-answer, same-list, list-is-corners}
-use Rattle.frame_runner.specs.FileAnswer.{limit, outcomeFor, fileOutcome, buffersFor, fileBuffers}
-use Rattle.program.specs.Program.{blank, linesOver, linesOf}
+use Rattle.frame_runner.specs.FileAnswer.{outcomeFor, fileOutcome, buffersFor, fileBuffers}
+use Rattle.program.specs.Program.{limit, blank, linesOver, linesOf}
 
 -- ---- the lines of a list: they are those of the numbers that are stored
 
@@ -153,7 +153,7 @@ whole-file file input got n e = ap linesOf (sym (rw n at e)) ∙ sym (opening-by
 
 -- with room as the program has it, the outcome and the list that is left print the file's lines, whatever the list held
 program-lines : (old : List Float) → length old ≡ 3 * 256 → (file : List ℕ) {o : Outcome} {left : List Float}
-    → o ≡ fileOutcome file (blank 2304 old) → left ≡ (fileBuffers file (blank 2304 old)) .list → printed 3 o left ≡ linesOf file
+    → o ≡ fileOutcome limit file (blank 2304 old) → left ≡ (fileBuffers limit file (blank 2304 old)) .list → printed 3 o left ≡ linesOf file
 unfolding linesOver linesOf
 program-lines old long file p q = rw (p, q) (lines-blank 2304 256 old long file)
 
@@ -163,13 +163,13 @@ module _ (input : List ℕ) (got : ℕ) (long : length input ≡ 2325) (old : Li
   file = take got input
 
   pub as-read : {read : List ℕ} {o : Outcome} {left : List Float} → read ≡ file
-      → (o ≡ fileOutcome read (blank 2304 old)) × (left ≡ (fileBuffers read (blank 2304 old)) .list)
-      → (o ≡ fileOutcome file (blank 2304 old))
-      × ((left ≡ (fileBuffers file (blank 2304 old)) .list)
+      → (o ≡ fileOutcome limit read (blank 2304 old)) × (left ≡ (fileBuffers limit read (blank 2304 old)) .list)
+      → (o ≡ fileOutcome limit file (blank 2304 old))
+      × ((left ≡ (fileBuffers limit file (blank 2304 old)) .list)
       × ((printed 3 o left ≡ linesOf file)
       × ((whole : List ℕ) → take (length input) whole ≡ file → printed 3 o left ≡ linesOf whole)))
   as-read {o = o} {left = left} e (p, q) =
-      let answer : o ≡ fileOutcome file (blank 2304 old) = p ∙ ap (λ (f : List ℕ). fileOutcome f (blank 2304 old)) e in
-      let list : left ≡ (fileBuffers file (blank 2304 old)) .list = q ∙ ap (λ (f : List ℕ). (fileBuffers f (blank 2304 old)) .list) e in
+      let answer : o ≡ fileOutcome limit file (blank 2304 old) = p ∙ ap (λ (f : List ℕ). fileOutcome limit f (blank 2304 old)) e in
+      let list : left ≡ (fileBuffers limit file (blank 2304 old)) .list = q ∙ ap (λ (f : List ℕ). (fileBuffers limit f (blank 2304 old)) .list) e in
       let lines : printed 3 o left ≡ linesOf file = program-lines old room file answer list in
       (answer, (list, (lines, λ whole h. lines ∙ whole-file whole input got long h)))

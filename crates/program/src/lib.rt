@@ -5,14 +5,17 @@ ghost use Prim.Native.Nat.{ℕ};
 ghost use lib.ListN.{length, take};
 ghost use Rattle.lines.specs.Printed.{printed};
 ghost use Rattle.frame_runner.specs.FileAnswer.{fileOutcome, fileBuffers};
-ghost use Rattle.program.specs.Program.{blank, linesOf};
+ghost use Rattle.program.specs.Program.{limit, blank, linesOf};
 use frame_runner::run_frame_file;
 use params::Outcome;
 
+// The bytes of the longest frame file: 20 before the pixels, and 2,304 pixels.
+const LIMIT: usize = 2324;
+
 // What a frame file is answered over work buffers of its own, with room for 2,304 working pixels, so that a program lends the list alone.
 pub fn run_with_room(file: &[u8], list: &mut [f32]) -> Outcome
-    ensures answer { λ r. ⌜ r ≡ fileOutcome (now (file .entry)) (blank 2304 (now (list .entry))) ⌝ }
-    ensures list { λ _. ⌜ now (list .exit) ≡ (fileBuffers (now (file .entry)) (blank 2304 (now (list .entry)))) .list ⌝ }
+    ensures answer { λ r. ⌜ r ≡ fileOutcome limit (now (file .entry)) (blank 2304 (now (list .entry))) ⌝ }
+    ensures list { λ _. ⌜ now (list .exit) ≡ (fileBuffers limit (now (file .entry)) (blank 2304 (now (list .entry)))) .list ⌝ }
 {
     let mut working = [0u8; 2304];
     let mut row = [0u32; 2304];
@@ -23,6 +26,7 @@ pub fn run_with_room(file: &[u8], list: &mut [f32]) -> Outcome
     let mut scratch = [0.0f32; 2304];
     run_frame_file(
         file,
+        LIMIT,
         &mut working,
         &mut row,
         &mut col,
@@ -38,8 +42,8 @@ pub fn run_with_room(file: &[u8], list: &mut [f32]) -> Outcome
 // longer one is seen to be too long. The lines are fixed by the bytes that were read; and where those are as much of a file as the array takes, by
 // the whole file.
 pub fn answer(input: &[u8; 2325], got: usize, list: &mut [f32; 768]) -> Outcome
-    ensures answer { λ r. ⌜ r ≡ fileOutcome (take got (now (input .entry))) (blank 2304 (now (list .entry))) ⌝ }
-    ensures list { λ _. ⌜ now (list .exit) ≡ (fileBuffers (take got (now (input .entry))) (blank 2304 (now (list .entry)))) .list ⌝ }
+    ensures answer { λ r. ⌜ r ≡ fileOutcome limit (take got (now (input .entry))) (blank 2304 (now (list .entry))) ⌝ }
+    ensures list { λ _. ⌜ now (list .exit) ≡ (fileBuffers limit (take got (now (input .entry))) (blank 2304 (now (list .entry)))) .list ⌝ }
     ensures lines { λ r. ⌜ printed 3 r (now (list .exit)) ≡ linesOf (take got (now (input .entry))) ⌝ }
     ensures whole { λ r. ⌜ ((file : List ℕ) → take (length (now (input .entry))) file ≡ take got (now (input .entry))
         → printed 3 r (now (list .exit)) ≡ linesOf file) ⌝ }

@@ -50,7 +50,7 @@ returns : tie.Need-returns
 returns c =
     let r = refused c in
     let s = start r in
-    when-refused (now (s .args .file)) (buffers s) (r .read .ensures) _ (c .before .before .reading .given .1) (c .refusal .ensures)
+    when-refused (s .args .limit) (now (s .args .file)) (buffers s) (r .read .ensures) _ (c .before .before .reading .given .1) (c .refusal .ensures)
 
 same-length : tie.Need-same-length
 same-length c = search needs
@@ -82,7 +82,7 @@ returns-2 c =
     let p = cut f in
     let r = framed p in
     let s = start r in
-    when-read (now (s .args .file)) (buffers s) (r .read .ensures) (now (p .pixels .result)) _
+    when-read (s .args .limit) (now (s .args .file)) (buffers s) (r .read .ensures) (now (p .pixels .result)) _
     (p .before .before .reading2 .given .1) (p .pixels .ensures .values) (f .radon-corners-u8 .ensures .0) (f .radon-corners-u8 .ensures .1)
 
 pub run-frame-file-spec : {M : Type 1} → statement M
