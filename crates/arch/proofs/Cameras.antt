@@ -5,14 +5,12 @@ use Prim.Native.Nat.{ℕ, _+_, _-_, _*_, _≤_, _<_}
 use native.Mathlib.Nat.{le-antisymm}
 use native.Mathlib.Numerals.{add-one}
 use native.Mathlib.Omega.{arith}
-use lib.Ieee.{Float}
 use lib.ListN.{length, set, take, drop, replicate, length-drop, length-append, length-take}
 use lib.Seq.{take-all}
 use Rattle.grid.specs.Fill.{filled}
 use Rattle.grid.proofs.Fill.{filled-zero, fill-step}
 use Rattle.params.specs.declared.answers.Outcome.{Outcome}
 use Rattle.radon.specs.Finder.{Buffers}
-use Rattle.arch.specs.declared.due.Due.{Due}
 use Rattle.arch.specs.Arch.{dueIn, restAt, cameraOutcome, cameraBuffers, lentTo, backFrom, leftBy, told, noFrame}
 use Rattle.arch.specs.Taken.{takenBy}
 use Rattle.arch.proofs.Frames.{next-inside, next-rest}

@@ -1,19 +1,12 @@
 -- `arch::run_cameras` meets its contract: a turn runs one camera over its share, and goes on behind its frame. Assumes nothing.
-use mathlib.Core.Path.{_≡_, refl, sym, ap, _∙_}
-use Prim.Native.Nat.{ℕ, _+_, _-_, _*_, _≤_, _<_}
+use Prim.Native.Nat.{_+_, _-_, _*_, _≤_, _<_}
 use native.Mathlib.Omega.{arith}
 use borrow.Author.Needs.{needs}
-use lib.ListN.{length, getD}
+use lib.ListN.{length}
 use Rattle.radon.specs.Finder.{Buffers, lent}
-use Rattle.arch.proofs.Shares.{share-in}
 use Rattle.arch.proofs.Cameras.{Ran, ran-none, share-room, next-in, ran-turn, ran-all}
 use Rattle.arch.proofs.run_cameras.Statement.{statement}
 use Rattle.arch.proofs.run_cameras.Tie as tie
-use Rattle.arch.proofs.run_cameras.Reads as reads
-use Rattle.arch.proofs.run_cameras.Lts as lts
-use Rattle.arch.proofs.due.taken.Reads as taken-reads
-use Rattle.arch.proofs.run_camera.Reads as run-camera-reads
-use Rattle.params.proofs.answers.Outcome.refusal.Reads as refusal-reads
 
 abbrev Inv-loop : tie.InvT-loop
 Inv-loop cameras size frames working₀ row₀ col₀ falling₀ rising₀ response₀ scratch₀ list₀ told₀ at₀ i₀ working row col falling rising response scratch list told at i =
@@ -23,6 +16,20 @@ Inv-loop cameras size frames working₀ row₀ col₀ falling₀ rising₀ respo
 abbrev μ-loop : tie.MeasureT-loop
 μ-loop cameras size frames working₀ row₀ col₀ falling₀ rising₀ response₀ scratch₀ list₀ told₀ at₀ i₀ working row col falling rising response scratch list told at i =
     cameras - i
+
+-- the way back: from the turn's end to its camera's call, and from there to where its frame is cut
+abbrev called : tie.After-taken Inv-loop μ-loop → tie.After-run-camera Inv-loop μ-loop
+called c = c .before .before .before .before .before .before .before .before .before .before .before .before .before .before .before .before .before
+
+abbrev cut : tie.After-run-camera Inv-loop μ-loop → tie.After-rest Inv-loop μ-loop
+cut c = c .before .before .before .before .before .before .before .before .before
+
+-- to the same place from where what was lent is back, and from where the share is about to be lent
+abbrev ended : tie.After-slice-known16 Inv-loop μ-loop → tie.After-rest Inv-loop μ-loop
+ended c = cut (c .before .before .before .before .before .before .before .before .before .before .before .before .before .before .before .before)
+
+abbrev lends : tie.After-run-camera-arg7 Inv-loop μ-loop → tie.After-rest Inv-loop μ-loop
+lends c = c .before .before .before .before .before .before .before
 
 -- the share of the turn's camera
 share : (c : tie.After-rest Inv-loop μ-loop) →
@@ -55,32 +62,32 @@ add-e : tie.Need-add-e Inv-loop μ-loop
 add-e c = omega (arith, share c)
 
 mul-run-camera : tie.Need-mul-run-camera Inv-loop μ-loop
-mul-run-camera c = omega (arith, share (c .before .before .before .before .before .before .before))
+mul-run-camera c = omega (arith, share (lends c))
 
 sub-run-camera : tie.Need-sub-run-camera Inv-loop μ-loop
-sub-run-camera c = omega (arith, share (c .before .before .before .before .before .before .before))
+sub-run-camera c = omega (arith, share (lends c))
 
 part-run-camera-start : tie.Need-part-run-camera-start Inv-loop μ-loop
-part-run-camera-start c = omega (arith, share (c .before .before .before .before .before .before .before))
+part-run-camera-start c = omega (arith, share (lends c))
 
 part-run-camera-end : tie.Need-part-run-camera-end Inv-loop μ-loop
-part-run-camera-end c = omega (arith, share (c .before .before .before .before .before .before .before))
+part-run-camera-end c = omega (arith, share (lends c))
 
 run-camera-requires : tie.Need-run-camera-requires Inv-loop μ-loop
 run-camera-requires c κs = search needs
 
 mul-told : tie.Need-mul-told Inv-loop μ-loop
-mul-told c = omega (arith, share (c .before .before .before .before .before .before .before .before .before .before .before .before .before .before .before .before .before .before .before .before .before .before .before .before .before))
+mul-told c = omega (arith, share (ended c))
 
 array-set-from-told : tie.Need-array-set-from-told Inv-loop μ-loop
-array-set-from-told c = omega (arith, share (c .before .before .before .before .before .before .before .before .before .before .before .before .before .before .before .before .before .before .before .before .before .before .before .before .before))
+array-set-from-told c = omega (arith, share (ended c))
 
 taken-requires : tie.Need-taken-requires Inv-loop μ-loop
 taken-requires c κs = search needs
 
 add-at : tie.Need-add-at Inv-loop μ-loop
 add-at c =
-    let t = c .before .before .before .before .before .before .before .before .before .before .before .before .before .before .before .before .before .before .before .before .before .before .before .before .before .before .before in
+    let t = cut (called c) .before in
     omega (arith, next-in _ _ _ _ (t .before .loop .inv) (t .loop-test .taken) (c .taken .ensures))
 
 add-i : tie.Need-add-i Inv-loop μ-loop
@@ -91,10 +98,9 @@ loop-less c = omega arith
 
 loop-again : tie.Need-loop-again Inv-loop μ-loop
 loop-again c =
-    let r = c .before .before .before .before .before .before .before .before .before .before .before .before .before .before .before .before .before in
-    let t = r .before .before .before .before .before .before .before .before .before .before in
-    let l = t .before in
-    ran-turn _ _ _ _ (l .loop .inv) (t .loop-test .taken) (r .run-camera .ensures .0) (r .run-camera .ensures .1) (c .taken .ensures)
+    let r = called c in
+    let t = cut r .before in
+    ran-turn _ _ _ _ (t .before .loop .inv) (t .loop-test .taken) (r .run-camera .ensures .0) (r .run-camera .ensures .1) (c .taken .ensures)
     (record {
       working = c .before .before .before .before .before .before .before .before .before .before .before .before .before .before .before .before .working .given;
       row = c .before .before .before .before .before .before .before .before .before .before .before .before .before .before .row .given;
