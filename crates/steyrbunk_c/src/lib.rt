@@ -146,7 +146,18 @@ pub extern "C" fn steyrbunk_arch(
         (lent (now (work .entry)) (now (row .entry)) (now (col .entry)) (now (fall .entry)) (now (rise .entry))
         (now (resp .entry)) (now (scratch .entry)) (now (out .entry))) ⌝ }
 {
-    let o = run_arch(cameras, frames, work, row, col, fall, rise, resp, scratch, out);
+    let o = run_arch(
+        cameras,
+        frames,
+        work,
+        row,
+        col,
+        fall,
+        rise,
+        resp,
+        scratch,
+        out,
+    );
     let answer = o.answer;
     let each = o.cameras;
     tell_cameras(each, told);
