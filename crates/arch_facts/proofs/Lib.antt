@@ -1,0 +1,3 @@
+-- What holds of a call for all cameras of an arch.
+pub mod Parts
+pub mod Single
