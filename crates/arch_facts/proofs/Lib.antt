@@ -1,3 +1,4 @@
 -- What holds of a call for all cameras of an arch.
 pub mod Parts
 pub mod Single
+pub mod Fold
