@@ -68,8 +68,8 @@ module _ (frames : List ℕ) (size cameras : ℕ) (b : Buffers) where
     pub ran-more : SameLengths b (backFrom size i c d) → Ran frames size cameras b (backFrom size i c d) (set out i o) (at + n) (i + 1)
     ran-more long = record {
       most = omega arith;
-      inside = next-inside frames (ran .inside) (ran .rest) gone;
-      rest = next-rest frames (ran .inside) (ran .rest) gone;
+      inside = next-inside frames i (ran .inside) (ran .rest) gone;
+      rest = next-rest frames i (ran .inside) (ran .rest) gone;
       left = left-next;
       tells = fill-step _ _ i (ran .tells) told-next;
       long = long;
