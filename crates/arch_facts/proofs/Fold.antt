@@ -3,7 +3,7 @@
 use mathlib.Core.Path.{_≡_, refl, sym, ap, _∙_}
 use mathlib.Core.List.{List, []}
 use Prim.Native.Nat.{ℕ, zero, suc, _+_, _-_, _*_, _≤_, _<_, min, max}
-use native.Mathlib.Nat.{suc-mul, mul-le-mul-right, le-antisymm}
+use native.Mathlib.Nat.{le-refl}
 use native.Mathlib.Decide.{decLt}
 use native.Mathlib.Omega.{arith}
 use lib.Ieee.{Float}
@@ -20,6 +20,7 @@ use Rattle.arch.specs.declared.due.Due.{Due}
 use Rattle.arch.specs.declared.due.Due.the-variants.{Whole, Refused}
 use Rattle.arch.specs.Arch.{dueIn, restAt, cameraOutcome, cameraBuffers, shareOf, lentTo, backFrom, leftBy, told}
 use Rattle.arch.proofs.Cameras.{SameLengths}
+use Rattle.arch.proofs.Shares.{share-in}
 use Rattle.arch_facts.proofs.Parts.{put-long, part-put, drop-put, part-before-put, Wrote, drop-further}
 use Rattle.arch_facts.proofs.Single.{Writes, writes-none, writes-then, area, blurredArea, listed, same-lengths}
 use Rattle.arch_facts.proofs.Single.{read-long, read-told, read-writes}
@@ -78,13 +79,9 @@ lent-lengths size i s = record {
   list = simp (length-take, length-drop) (rw (s .list));
 }
 
--- a share ends before the next one begins
-share-ends : (size : ℕ) {i j : ℕ} → i < j → i * size + size ≤ j * size
-share-ends size {i} {j} l = rw (← suc-mul i size) (mul-le-mul-right size l)
-
 pub share-long : (size n i : ℕ) (l : List Float) → n * size ≤ length l → i < n → length (shareOf size i l) ≡ size
 share-long size n i l room goes =
-    let inside : i * size + size ≤ length l = omega (arith, share-ends size goes) in
+    let inside : i * size + size ≤ length l = share-in size goes room in
     length-take-le size (drop (i * size) l) (omega (arith, length-drop (i * size) l))
 
 -- ---- n shares of a list, over buffers b
@@ -118,7 +115,7 @@ module _ (frames : List ℕ) (size n : ℕ) (b : Buffers) (room : n * size ≤ l
 
   module _ (i : ℕ) (goes : i < n) (long : length (listNow i) ≡ length (b .list)) where
     share-fits : i * size + size ≤ length (listNow i)
-    share-fits = omega (arith, share-ends size goes)
+    share-fits = share-in size goes (omega arith)
 
     after-long : length ((after i) .list) ≡ size
     after-long = read-long (fileAt frames i) (readAt frames i) (lentAt i) .list ∙ share-long size n i (listNow i) (omega arith) goes
@@ -135,12 +132,12 @@ module _ (frames : List ℕ) (size n : ℕ) (b : Buffers) (room : n * size ≤ l
     share-before : (j : ℕ) → j < i → shareOf size j (listNow (suc i)) ≡ shareOf size j (listNow i)
     share-before j l =
         rw (list-next i)
-        (part-before-put (i * size) size ((after i) .list) (listNow i) after-long share-fits (j * size) size (share-ends size l))
+        (part-before-put (i * size) size ((after i) .list) (listNow i) after-long share-fits (j * size) size (share-in size l (le-refl _)))
 
     drop-later : (j : ℕ) → i < j → drop (j * size) (listNow (suc i)) ≡ drop (j * size) (listNow i)
     drop-later j l =
         rw (list-next i)
-        (drop-put (i * size) size ((after i) .list) (listNow i) after-long share-fits (j * size) (share-ends size l))
+        (drop-put (i * size) size ((after i) .list) (listNow i) after-long share-fits (j * size) (share-in size l (le-refl _)))
 
   -- ---- after all of them
 

@@ -2,3 +2,4 @@
 pub mod Parts
 pub mod Single
 pub mod Fold
+pub mod Left

@@ -1,0 +1,121 @@
+-- What a call for an arch tells and leaves, by name, and the steps to it from the definitions. Assumes nothing.
+use mathlib.Core.Path.{_≡_, refl, sym, ap, _∙_}
+use mathlib.Core.List.{List}
+use Prim.Native.Nat.{ℕ, _+_, _*_, _/_, _≤_, _<_}
+use native.Mathlib.Omega.{arith}
+use borrow.Author.Tests.{eq-eqb, ltb-false}
+use lib.Ieee.{Float}
+use lib.ListN.{length, getD, take, drop, replicate, getD-replicate}
+use lib.Seq.{length-take-le}
+use Rattle.grid.specs.Fill.{filled}
+use Rattle.grid.proofs.Fill.{getD-filled, getD-beyond}
+use Rattle.params.specs.declared.answers.Answer.the-variants.{Complete}
+use Rattle.params.specs.declared.answers.Outcome.{Outcome}
+use Rattle.params.specs.Answers.{numberOf}
+use Rattle.params.proofs.Accepted.{past}
+use Rattle.response.specs.Map.{Buffers as MapBuffers}
+use Rattle.detect.specs.Corners.{stride}
+use Rattle.frame.specs.FrameFile.{readOf}
+use Rattle.radon.specs.Finder.{Buffers}
+use Rattle.frame_runner.specs.FileAnswer.{outcomeFor, buffersFor}
+use Rattle.arch.specs.declared.ArchOutcome.{ArchOutcome}
+use Rattle.arch.specs.declared.due.Due.the-variants.{Whole}
+use Rattle.arch.specs.Arch.{dueIn, restAt, shareSize, shareOf, leftBy, told, archRefusal, noFrame, archOutcome, archBuffers}
+use Rattle.arch.proofs.Frames.{whole-in}
+use Rattle.arch.proofs.Shares.{shares-in}
+use Rattle.arch_facts.proofs.Fold.{fileIn, readIn, fileAt, readAt, told-single, share-single}
+
+-- 21 is not given to a call for n cameras over the buffers b
+abbrev pub Accepted : ℕ → Buffers → Type 0
+Accepted n b = numberOf (archRefusal n (length (b .list))) ≡ 0
+
+-- how many numbers of the list each camera gets
+abbrev pub size : ℕ → Buffers → ℕ
+size n b = shareSize n (length (b .list))
+
+-- what camera i is told
+abbrev pub toldTo : ℕ → List ℕ → Buffers → ℕ → Outcome
+toldTo n frames b i = getD ((archOutcome n frames b) .cameras) i noFrame
+
+-- its share, as it was lent and as the call leaves it
+abbrev pub shareLent : ℕ → Buffers → ℕ → List Float
+shareLent n b i = shareOf (size n b) i (b .list)
+
+abbrev pub shareLeft : ℕ → List ℕ → Buffers → ℕ → List Float
+shareLeft n frames b i = shareOf (size n b) i ((archBuffers n frames b) .list)
+
+-- "the work buffers as the earlier frames left them"
+abbrev pub workBefore : ℕ → List ℕ → Buffers → ℕ → MapBuffers
+workBefore n frames b i = (leftBy frames (size n b) b i) .map
+
+-- what the like single call is lent: "that share as its list", with those work buffers
+abbrev pub single : ℕ → List ℕ → Buffers → ℕ → Buffers
+single n frames b i = record { map = workBefore n frames b i; list = shareLent n b i }
+
+-- frame i lies whole in the slice: it has k bytes, and they are those of the file
+pub record WholeAt (frames : List ℕ) (i k : ℕ) (file : List ℕ) : Type 0 where
+  pub due : dueIn (restAt frames i) ≡ Whole k
+  pub is : take k (restAt frames i) ≡ file
+
+module _ {frames file : List ℕ} {i k : ℕ} (whole : WholeAt frames i k file) where
+  pub whole-long : length file ≡ k
+  whole-long = sym (ap length (whole .is)) ∙ length-take-le k (restAt frames i) (whole-in (restAt frames i) (whole .due))
+
+  pub file-is : fileAt frames i ≡ file
+  file-is = ap (fileIn (restAt frames i)) (whole .due) ∙ whole .is
+
+  pub read-is : readAt frames i ≡ readOf k file
+  read-is = ap (readIn (restAt frames i)) (whole .due) ∙ ap (readOf k) (whole .is)
+
+-- ---- a call that is not answered 21
+
+pub record Taken (n : ℕ) (b : Buffers) : Type 0 where
+  pub least : 2 ≤ n
+  pub most : n ≤ 8
+  pub corner : n ≤ length (b .list) / stride
+  pub room : n * size n b ≤ length (b .list)
+
+module _ (n : ℕ) (frames : List ℕ) (b : Buffers) (accepted : Accepted n b) where
+  pub taken : Taken n b
+  unfolding archRefusal
+  taken =
+      let few = past _ _ _ refl accepted in
+      let many = past _ _ _ refl (few .1) in
+      let short = past _ _ _ refl (many .1) in
+      record {
+        least = ltb-false _ _ (few .0);
+        most = ltb-false _ _ (many .0);
+        corner = ltb-false _ _ (short .0);
+        room = shares-in stride n (length (b .list));
+      }
+
+  pub outcome-is : _≡_ {A = ArchOutcome} (archOutcome n frames b) (record {
+    answer = Complete;
+    cameras = filled n (told frames (size n b) b) (replicate 8 noFrame);
+  })
+  unfolding archOutcome
+  outcome-is = rw (eq-eqb (numberOf (archRefusal n (length (b .list)))) 0 accepted)
+
+  pub buffers-are : archBuffers n frames b ≡ leftBy frames (size n b) b n
+  unfolding archBuffers
+  buffers-are = rw (eq-eqb (numberOf (archRefusal n (length (b .list)))) 0 accepted)
+
+  module _ (i : ℕ) (goes : i < n) where
+    pub told-is : toldTo n frames b i ≡ told frames (size n b) b i
+    told-is =
+        ap (λ (o : ArchOutcome). getD (o .cameras) i noFrame) outcome-is
+        ∙ getD-filled n (told frames (size n b) b) (replicate 8 noFrame) i noFrame goes (omega (arith, taken .most))
+
+    -- by the frame that is due
+    pub told-due : toldTo n frames b i ≡ outcomeFor (fileAt frames i) (single n frames b i) (readAt frames i)
+    told-due = told-is ∙ told-single frames (size n b) n b (taken .room) i goes
+
+    pub share-due : shareLeft n frames b i ≡ (buffersFor (fileAt frames i) (single n frames b i) (readAt frames i)) .list
+    share-due = ap (λ (c : Buffers). shareOf (size n b) i (c .list)) buffers-are ∙ share-single frames (size n b) n b (taken .room) i goes
+
+  -- an entry beyond the camera count
+  pub told-beyond : (i : ℕ) → n ≤ i → i < 8 → toldTo n frames b i ≡ noFrame
+  told-beyond i l m =
+      ap (λ (o : ArchOutcome). getD (o .cameras) i noFrame) outcome-is
+      ∙ getD-beyond n (told frames (size n b) b) (replicate 8 noFrame) i noFrame l
+      ∙ getD-replicate 8 i noFrame noFrame m
