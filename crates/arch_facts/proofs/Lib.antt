@@ -3,3 +3,4 @@ pub mod Parts
 pub mod Single
 pub mod Fold
 pub mod Left
+pub mod Ten

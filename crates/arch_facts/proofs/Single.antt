@@ -112,7 +112,7 @@ unfolding scratched
 scratch-long g w h zero old = refl
 scratch-long g w h (suc r) old = length-filled (w * h) _ old
 
-or-not : (n : ℕ) → Dec (n ≡ 0)
+pub or-not : (n : ℕ) → Dec (n ≡ 0)
 or-not zero = yes refl
 or-not (suc n) = no (λ e. omega arith)
 
