@@ -4,3 +4,4 @@ pub mod Single
 pub mod Fold
 pub mod Left
 pub mod Ten
+pub mod Arches
