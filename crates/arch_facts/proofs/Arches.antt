@@ -41,7 +41,7 @@ module _ (n : ℕ) (frames : List ℕ) (b : Buffers) (accepted : Accepted n b) w
     pub work-is-single-call : workBefore n frames b (suc i) ≡ (fileBuffers k file (single n frames b i)) .map
     unfolding fileBuffers
     work-is-single-call =
-        map-single frames (size n b) n b (taken n frames b accepted .room) i goes
+        map-single frames (size n b) b n (taken n frames b accepted .room) i goes
         ∙ (λ j. (buffersFor (file-is whole j) (single n frames b i) (read-is whole j)) .map)
 
     -- by the finder, where the file is read as a frame

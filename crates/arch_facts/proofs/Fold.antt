@@ -84,9 +84,9 @@ share-long size n i l room goes =
     let inside : i * size + size ≤ length l = share-in size goes room in
     length-take-le size (drop (i * size) l) (omega (arith, length-drop (i * size) l))
 
--- ---- n shares of a list, over buffers b
+-- ---- over buffers b
 
-module _ (frames : List ℕ) (size n : ℕ) (b : Buffers) (room : n * size ≤ length (b .list)) where
+module _ (frames : List ℕ) (size : ℕ) (b : Buffers) where
   -- all buffers as the first i cameras left them, what camera i is lent of that, and what it leaves
   abbrev now : ℕ → Buffers
   now i = leftBy frames size b i
@@ -105,101 +105,122 @@ module _ (frames : List ℕ) (size n : ℕ) (b : Buffers) (room : n * size ≤ l
   unfolding leftBy
   next-is i = ap (backFrom size i (now i)) (camera-left (restAt frames i) (dueIn (restAt frames i)) (lentAt i))
 
-  abbrev listNow : ℕ → List Float
-  listNow i = (now i) .list
+  -- ---- n shares of its list
 
-  list-next : (i : ℕ) → listNow (suc i) ≡ (backFrom size i (now i) (after i)) .list
-  list-next i = ap (λ (c : Buffers). c .list) (next-is i)
+  module _ (n : ℕ) (room : n * size ≤ length (b .list)) where
+    abbrev listNow : ℕ → List Float
+    listNow i = (now i) .list
 
-  -- ---- where share i stands: inside the list, which is as long as it was
+    list-next : (i : ℕ) → listNow (suc i) ≡ (backFrom size i (now i) (after i)) .list
+    list-next i = ap (λ (c : Buffers). c .list) (next-is i)
 
-  module _ (i : ℕ) (goes : i < n) (long : length (listNow i) ≡ length (b .list)) where
-    share-fits : i * size + size ≤ length (listNow i)
-    share-fits = share-in size goes (omega arith)
+    -- ---- where share i stands: inside the list, which is as long as it was
 
-    after-long : length ((after i) .list) ≡ size
-    after-long = read-long (fileAt frames i) (readAt frames i) (lentAt i) .list ∙ share-long size n i (listNow i) (omega arith) goes
+    module _ (i : ℕ) (goes : i < n) (long : length (listNow i) ≡ length (b .list)) where
+      share-fits : i * size + size ≤ length (listNow i)
+      share-fits = share-in size goes (omega arith)
 
-    -- a camera changes no length,
-    list-long : length (listNow (suc i)) ≡ length (b .list)
-    list-long = ap length (list-next i) ∙ put-long (i * size) size ((after i) .list) (listNow i) after-long share-fits ∙ long
+      after-long : length ((after i) .list) ≡ size
+      after-long = read-long (fileAt frames i) (readAt frames i) (lentAt i) .list ∙ share-long size n i (listNow i) (omega arith) goes
 
-    -- its share is what it left,
-    share-itself : shareOf size i (listNow (suc i)) ≡ (after i) .list
-    share-itself = rw (list-next i) (part-put (i * size) size ((after i) .list) (listNow i) after-long share-fits)
+      -- a camera changes no length,
+      list-long : length (listNow (suc i)) ≡ length (b .list)
+      list-long = ap length (list-next i) ∙ put-long (i * size) size ((after i) .list) (listNow i) after-long share-fits ∙ long
 
-    -- and it touches no other
-    share-before : (j : ℕ) → j < i → shareOf size j (listNow (suc i)) ≡ shareOf size j (listNow i)
-    share-before j l =
-        rw (list-next i)
-        (part-before-put (i * size) size ((after i) .list) (listNow i) after-long share-fits (j * size) size (share-in size l (le-refl _)))
+      -- its share is what it left,
+      share-itself : shareOf size i (listNow (suc i)) ≡ (after i) .list
+      share-itself = rw (list-next i) (part-put (i * size) size ((after i) .list) (listNow i) after-long share-fits)
 
-    drop-later : (j : ℕ) → i < j → drop (j * size) (listNow (suc i)) ≡ drop (j * size) (listNow i)
-    drop-later j l =
-        rw (list-next i)
-        (drop-put (i * size) size ((after i) .list) (listNow i) after-long share-fits (j * size) (share-in size l (le-refl _)))
+      -- and it touches no other
+      share-before : (j : ℕ) → j < i → shareOf size j (listNow (suc i)) ≡ shareOf size j (listNow i)
+      share-before j l =
+          rw (list-next i)
+          (part-before-put (i * size) size ((after i) .list) (listNow i) after-long share-fits (j * size) size (share-in size l (le-refl _)))
 
-  -- ---- after all of them
+      drop-later : (j : ℕ) → i < j → drop (j * size) (listNow (suc i)) ≡ drop (j * size) (listNow i)
+      drop-later j l =
+          rw (list-next i)
+          (drop-put (i * size) size ((after i) .list) (listNow i) after-long share-fits (j * size) (share-in size l (le-refl _)))
 
-  pub long : (i : ℕ) → i ≤ n → SameLengths b (now i)
+    -- ---- after all of them
+
+    pub long : (i : ℕ) → i ≤ n → SameLengths b (now i)
+    unfolding leftBy
+    long zero l = same-lengths b
+    long (suc i) l =
+        let s = long i (omega arith) in
+        let t = read-long (fileAt frames i) (readAt frames i) (lentAt i) in
+        let u = list-long i l (s .list) in
+        rw (next-is i) (record {
+          working = t .working ∙ s .working;
+          row = t .row ∙ s .row;
+          col = t .col ∙ s .col;
+          falling = t .falling ∙ s .falling;
+          rising = t .rising ∙ s .rising;
+          response = t .response ∙ s .response;
+          scratch = t .scratch ∙ s .scratch;
+          list = rw (list-next i) at u;
+        })
+
+    as-long : (i : ℕ) → i < n → length (listNow i) ≡ length (b .list)
+    as-long i l = long i (omega arith) .list
+
+    -- from a later share on the list is as it was lent
+    pub drop-lent : (i j : ℕ) → i ≤ n → i ≤ j → drop (j * size) (listNow i) ≡ drop (j * size) (b .list)
+    unfolding leftBy
+    drop-lent zero j l m = refl
+    drop-lent (suc i) j l m = drop-later i l (as-long i l) j m ∙ drop-lent i j (omega arith) (omega arith)
+
+    -- and a share, once its camera has left it, stays
+    pub share-left : (j i : ℕ) → i < j → j ≤ n → shareOf size i (listNow j) ≡ (after i) .list
+    share-left zero i l m = absurd (omega arith)
+    share-left (suc j) i l m = by (decLt i j) (λ k. share-left j i k (omega arith))
+      where
+        by : Dec (i < j) → (i < j → shareOf size i (listNow j) ≡ (after i) .list) → shareOf size i (listNow (suc j)) ≡ (after i) .list
+        by (yes k) e = share-before j m (as-long j m) i k ∙ e k
+        by (no k) f =
+            let e : i ≡ j = omega arith in
+            rw e (share-itself j m (as-long j m))
+
+    -- ---- camera i by the share that was lent at the call
+
+    abbrev pub singleAt : ℕ → Buffers
+    singleAt i = record { map = (now i) .map; list = shareOf size i (b .list) }
+
+    lent-is : (i : ℕ) → i < n → lentAt i ≡ singleAt i
+    lent-is i l = λ k. record { map = (now i) .map; list = take size (drop-lent i i (omega arith) (omega arith) k) }
+
+    pub told-single : (i : ℕ) → i < n → told frames size b i ≡ outcomeFor (fileAt frames i) (singleAt i) (readAt frames i)
+    told-single i l = told-is i ∙ ap (λ (c : Buffers). outcomeFor (fileAt frames i) c (readAt frames i)) (lent-is i l)
+
+    pub share-single : (i : ℕ) → i < n → shareOf size i (listNow n) ≡ (buffersFor (fileAt frames i) (singleAt i) (readAt frames i)) .list
+    share-single i l =
+        share-left n i l (omega arith)
+        ∙ ap (λ (c : Buffers). (buffersFor (fileAt frames i) c (readAt frames i)) .list) (lent-is i l)
+
+    -- the work buffers behind it
+    pub map-single : (i : ℕ) → i < n → (now (suc i)) .map ≡ (buffersFor (fileAt frames i) (singleAt i) (readAt frames i)) .map
+    map-single i l =
+        ap (λ (c : Buffers). c .map) (next-is i)
+        ∙ ap (λ (c : Buffers). (buffersFor (fileAt frames i) c (readAt frames i)) .map) (lent-is i l)
+
+-- what is told and left depends on the slice by the files that are due
+module _ (frames others : List ℕ) (size n : ℕ) (b : Buffers)
+    (files : (i : ℕ) → i < n → fileAt frames i ≡ fileAt others i) (reads : (i : ℕ) → i < n → readAt frames i ≡ readAt others i) where
+  pub left-by-files : (i : ℕ) → i ≤ n → leftBy frames size b i ≡ leftBy others size b i
   unfolding leftBy
-  long zero l = same-lengths b
-  long (suc i) l =
-      let s = long i (omega arith) in
-      let t = read-long (fileAt frames i) (readAt frames i) (lentAt i) in
-      let u = list-long i l (s .list) in
-      rw (next-is i) (record {
-        working = t .working ∙ s .working;
-        row = t .row ∙ s .row;
-        col = t .col ∙ s .col;
-        falling = t .falling ∙ s .falling;
-        rising = t .rising ∙ s .rising;
-        response = t .response ∙ s .response;
-        scratch = t .scratch ∙ s .scratch;
-        list = rw (list-next i) at u;
-      })
+  left-by-files zero l = refl
+  left-by-files (suc i) l =
+      let e = left-by-files i (omega arith) in
+      next-is frames size b i
+      ∙ (λ k. backFrom size i (e k) (buffersFor (files i l k) (lentTo size i (e k)) (reads i l k)))
+      ∙ sym (next-is others size b i)
 
-  as-long : (i : ℕ) → i < n → length (listNow i) ≡ length (b .list)
-  as-long i l = long i (omega arith) .list
-
-  -- from a later share on the list is as it was lent
-  pub drop-lent : (i j : ℕ) → i ≤ n → i ≤ j → drop (j * size) (listNow i) ≡ drop (j * size) (b .list)
-  unfolding leftBy
-  drop-lent zero j l m = refl
-  drop-lent (suc i) j l m = drop-later i l (as-long i l) j m ∙ drop-lent i j (omega arith) (omega arith)
-
-  -- and a share, once its camera has left it, stays
-  pub share-left : (j i : ℕ) → i < j → j ≤ n → shareOf size i (listNow j) ≡ (after i) .list
-  share-left zero i l m = absurd (omega arith)
-  share-left (suc j) i l m = by (decLt i j) (λ k. share-left j i k (omega arith))
-    where
-      by : Dec (i < j) → (i < j → shareOf size i (listNow j) ≡ (after i) .list) → shareOf size i (listNow (suc j)) ≡ (after i) .list
-      by (yes k) e = share-before j m (as-long j m) i k ∙ e k
-      by (no k) f =
-          let e : i ≡ j = omega arith in
-          rw e (share-itself j m (as-long j m))
-
-  -- ---- camera i by the share that was lent at the call
-
-  abbrev pub singleAt : ℕ → Buffers
-  singleAt i = record { map = (now i) .map; list = shareOf size i (b .list) }
-
-  lent-is : (i : ℕ) → i < n → lentAt i ≡ singleAt i
-  lent-is i l = λ k. record { map = (now i) .map; list = take size (drop-lent i i (omega arith) (omega arith) k) }
-
-  pub told-single : (i : ℕ) → i < n → told frames size b i ≡ outcomeFor (fileAt frames i) (singleAt i) (readAt frames i)
-  told-single i l = told-is i ∙ ap (λ (c : Buffers). outcomeFor (fileAt frames i) c (readAt frames i)) (lent-is i l)
-
-  pub share-single : (i : ℕ) → i < n → shareOf size i (listNow n) ≡ (buffersFor (fileAt frames i) (singleAt i) (readAt frames i)) .list
-  share-single i l =
-      share-left n i l (omega arith)
-      ∙ ap (λ (c : Buffers). (buffersFor (fileAt frames i) c (readAt frames i)) .list) (lent-is i l)
-
-  -- the work buffers behind it
-  pub map-single : (i : ℕ) → i < n → (now (suc i)) .map ≡ (buffersFor (fileAt frames i) (singleAt i) (readAt frames i)) .map
-  map-single i l =
-      ap (λ (c : Buffers). c .map) (next-is i)
-      ∙ ap (λ (c : Buffers). (buffersFor (fileAt frames i) c (readAt frames i)) .map) (lent-is i l)
+  pub told-by-files : (i : ℕ) → i < n → told frames size b i ≡ told others size b i
+  told-by-files i l =
+      told-is frames size b i
+      ∙ (λ k. outcomeFor (files i l k) (lentTo size i (left-by-files i (omega arith) k)) (reads i l k))
+      ∙ sym (told-is others size b i)
 
 -- how far the first i cameras wrote: the greatest W·H of them, and the greatest of those that used the scratch
 abbrev pub reach : List ℕ → ℕ → Buffers → ℕ → ℕ
@@ -215,16 +236,16 @@ module _ (frames : List ℕ) (size n : ℕ) (b c : Buffers) (room : n * size ≤
   room-too = rw (same .list) room
 
   now-same : (i : ℕ) → i ≤ n → SameLengths (leftBy frames size b i) (leftBy frames size c i)
-  now-same i l = lengths-over same (long frames size n b room i l) (long frames size n c room-too i l)
+  now-same i l = lengths-over same (long frames size b n room i l) (long frames size c n room-too i l)
 
   lent-same : (i : ℕ) → i ≤ n → SameLengths (lentTo size i (leftBy frames size b i)) (lentTo size i (leftBy frames size c i))
   lent-same i l = lent-lengths size i (now-same i l)
 
   pub told-same : (i : ℕ) → i < n → told frames size b i ≡ told frames size c i
   told-same i l =
-      told-is frames size n b room i
+      told-is frames size b i
       ∙ read-told (fileAt frames i) _ _ (lent-same i (omega arith)) (readAt frames i)
-      ∙ sym (told-is frames size n c room-too i)
+      ∙ sym (told-is frames size c i)
 
   abbrev Reached : ℕ → Type 0
   Reached i =
@@ -235,7 +256,7 @@ module _ (frames : List ℕ) (size n : ℕ) (b c : Buffers) (room : n * size ≤
   unfolding fold
   work-next i l before =
       let call = read-writes (fileAt frames i) _ _ (lent-same i (omega arith)) (readAt frames i) in
-      rw (next-is frames size n b room i, next-is frames size n c room-too i, told-is frames size n b room i)
+      rw (next-is frames size b i, next-is frames size c i, told-is frames size b i)
       (writes-then _ _ _ _ before (call .0))
 
   pub work-writes : (i : ℕ) → i ≤ n → Reached i
@@ -247,7 +268,7 @@ module _ (frames : List ℕ) (size n : ℕ) (b c : Buffers) (room : n * size ≤
       → Wrote (listed (told frames size b i) size) (shareOf size i (b .list)) (shareOf size i (c .list))
       (shareOf size i ((leftBy frames size b n) .list)) (shareOf size i ((leftBy frames size c n) .list))
   share-writes i l =
-      let lent = rw (lent-is frames size n b room i l, lent-is frames size n c room-too i l) at (lent-same i (omega arith)) in
+      let lent = rw (lent-is frames size b n room i l, lent-is frames size c n room-too i l) at (lent-same i (omega arith)) in
       let call = read-writes (fileAt frames i) _ _ lent (readAt frames i) in
-      rw (told-single frames size n b room i l, share-single frames size n b room i l, share-single frames size n c room-too i l)
+      rw (told-single frames size b n room i l, share-single frames size b n room i l, share-single frames size c n room-too i l)
       (rw (share-long size n i (b .list) room l) at (call .1))

@@ -108,10 +108,10 @@ module _ (n : ℕ) (frames : List ℕ) (b : Buffers) (accepted : Accepted n b) w
 
     -- by the frame that is due
     pub told-due : toldTo n frames b i ≡ outcomeFor (fileAt frames i) (single n frames b i) (readAt frames i)
-    told-due = told-is ∙ told-single frames (size n b) n b (taken .room) i goes
+    told-due = told-is ∙ told-single frames (size n b) b n (taken .room) i goes
 
     pub share-due : shareLeft n frames b i ≡ (buffersFor (fileAt frames i) (single n frames b i) (readAt frames i)) .list
-    share-due = ap (λ (c : Buffers). shareOf (size n b) i (c .list)) buffers-are ∙ share-single frames (size n b) n b (taken .room) i goes
+    share-due = ap (λ (c : Buffers). shareOf (size n b) i (c .list)) buffers-are ∙ share-single frames (size n b) b n (taken .room) i goes
 
   -- an entry beyond the camera count
   pub told-beyond : (i : ℕ) → n ≤ i → i < 8 → toldTo n frames b i ≡ noFrame
