@@ -4,4 +4,5 @@ pub mod Single
 pub mod Fold
 pub mod Left
 pub mod Ten
+pub mod Laid
 pub mod Arches
