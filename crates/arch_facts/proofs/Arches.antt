@@ -3,13 +3,16 @@
 -- buffers b. Left.antt names what is told and left: of camera i, counted from 0, `toldTo`, `shareLeft`, and `single`, what the like single call is
 -- lent. Assumes nothing.
 use mathlib.Core.Path.{_≡_, refl, sym, ap, _∙_}
-use mathlib.Core.List.{List}
+use mathlib.Core.List.{List, [], _++_, flatten}
 use Prim.Native.Nat.{ℕ, suc, _+_, _*_, _/_, _≤_, _<_}
 use native.Mathlib.Decide.{decLt}
 use native.Mathlib.Omega.{arith}
 use lib.Ieee.{Float}
-use lib.ListN.{length, take, drop}
-use Rattle.params.specs.declared.answers.Answer.the-variants.{FileTooLong}
+use lib.ListN.{length, getD, take, drop}
+use Rattle.grid.proofs.All.{all}
+use Rattle.big_endian.specs.BigEndian.{wordAt}
+use Rattle.params.specs.declared.answers.Answer.{Answer}
+use Rattle.params.specs.declared.answers.Answer.the-variants.{FileTooLong, FileTooShort, StatedLength}
 use Rattle.params.specs.declared.answers.Outcome.{Outcome}
 use Rattle.params.specs.Answers.{numberOf, refused}
 use Rattle.frame.specs.declared.Header.{Header}
@@ -17,10 +20,14 @@ use Rattle.frame.specs.declared.Reading.the-variants.{Frame}
 use Rattle.frame.specs.FrameFile.{readOf}
 use Rattle.radon.specs.Finder.{Buffers, outcomeOf, buffersOf}
 use Rattle.frame_runner.specs.FileAnswer.{outcomeFor, fileOutcome, buffersFor, fileBuffers}
-use Rattle.arch.specs.Arch.{restAt, dueIn, leftBy, archBuffers}
-use Rattle.arch_facts.proofs.Fold.{readAt, fileAt, map-single}
+use Rattle.arch.specs.declared.due.Due.{Due}
+use Rattle.arch.specs.declared.due.Due.the-variants.{Refused}
+use Rattle.arch.specs.Arch.{restAt, dueIn, leftBy, noFrame, archOutcome, archBuffers}
+use Rattle.arch.proofs.Frames.{too-short, past-the-end, lies-whole}
+use Rattle.arch_facts.proofs.Fold.{fileIn, readIn, fileAt, readAt}
 use Rattle.arch_facts.proofs.Left.{Accepted, size, toldTo, shareLent, shareLeft, workBefore, single, WholeAt, whole-long, file-is, read-is}
-use Rattle.arch_facts.proofs.Left.{taken, buffers-are, told-due, share-due, told-beyond}
+use Rattle.arch_facts.proofs.Left.{taken, buffers-are, told-due, share-due, work-due, told-beyond, by-files}
+use Rattle.arch_facts.proofs.Laid.{next-begins, later-ones, Stated, laid}
 use Rattle.arch_facts.proofs.Ten.{same-reading, told-not-ten, due-not-ten}
 
 -- ---- 1. "The answer, count and share of every frame that lies whole in the slice equal those of a single call with that share as its list, with
@@ -41,7 +48,7 @@ module _ (n : ℕ) (frames : List ℕ) (b : Buffers) (accepted : Accepted n b) w
     pub work-is-single-call : workBefore n frames b (suc i) ≡ (fileBuffers k file (single n frames b i)) .map
     unfolding fileBuffers
     work-is-single-call =
-        map-single frames (size n b) b n (taken n frames b accepted .room) i goes
+        work-due n frames b accepted i goes
         ∙ (λ j. (buffersFor (file-is whole j) (single n frames b i) (read-is whole j)) .map)
 
     -- by the finder, where the file is read as a frame
@@ -85,3 +92,63 @@ pub any-limit : (limit : ℕ) (file : List ℕ) (c : Buffers) → length file �
 unfolding fileOutcome fileBuffers
 any-limit limit file c within =
     (ap (outcomeFor file c) (same-reading limit file within), ap (buffersFor file c) (same-reading limit file within))
+
+-- ---- 2. Frames that are not whole, and how they stand
+
+module _ (n : ℕ) (frames : List ℕ) (b : Buffers) (accepted : Accepted n b) where
+  -- what a camera is told and leaves that changes nothing
+  abbrev pub LeavesAll : ℕ → Answer → Type 0
+  LeavesAll i a =
+      (toldTo n frames b i ≡ refused a)
+      × (shareLeft n frames b i ≡ shareLent n b i)
+      × (workBefore n frames b (suc i) ≡ workBefore n frames b i)
+
+  module _ (i : ℕ) (goes : i < n) where
+    pub not-whole : (a : Answer) → dueIn (restAt frames i) ≡ Refused a → LeavesAll i a
+    not-whole a e =
+        let c = single n frames b i in
+        let rest = restAt frames i in
+        (told-due n frames b accepted i goes ∙ ap (λ (d : Due). outcomeFor (fileIn rest d) c (readIn rest d)) e,
+        share-due n frames b accepted i goes ∙ ap (λ (d : Due). (buffersFor (fileIn rest d) c (readIn rest d)) .list) e,
+        work-due n frames b accepted i goes ∙ ap (λ (d : Due). (buffersFor (fileIn rest d) c (readIn rest d)) .map) e)
+
+    -- "with under five bytes left it answers 11"
+    pub under-five-bytes : length (restAt frames i) < 5 → LeavesAll i FileTooShort
+    under-five-bytes l = not-whole FileTooShort (sym (too-short (restAt frames i) l))
+
+    -- "Where that length runs past the end, that frame answers 13, whatever else is wrong with it"
+    pub runs-past-the-end : 5 ≤ length (restAt frames i) → length (restAt frames i) < 5 + wordAt (restAt frames i) 1 → LeavesAll i StatedLength
+    runs-past-the-end five l = not-whole StatedLength (sym (past-the-end (restAt frames i) refl five (omega arith)))
+
+  -- "either way the later ones answer 11"
+  pub later-ones-too : (i j : ℕ) (a : Answer) → dueIn (restAt frames i) ≡ Refused a → i < j → j < n → LeavesAll j FileTooShort
+  later-ones-too i j a e l m = not-whole j m FileTooShort (later-ones frames j i e l)
+
+  -- an entry beyond the camera count reads as a camera for which nothing is left
+  pub entries-beyond : (i : ℕ) → n ≤ i → i < 8 → toldTo n frames b i ≡ noFrame
+  entries-beyond = told-beyond n frames b accepted
+
+-- all others are whole: a frame with the five bytes and its stated length
+pub whole-frame : (frames : List ℕ) (i : ℕ) → let rest = restAt frames i in
+    5 ≤ length rest → 5 + wordAt rest 1 ≤ length rest → WholeAt frames i (5 + wordAt rest 1) (take (5 + wordAt rest 1) rest)
+whole-frame frames i five fits = record { due = sym (lies-whole (restAt frames i) refl five (omega arith)); is = refl }
+
+-- "A refused frame stops nobody: the next begins after its stated length", whatever the frame is answered
+pub next-after-stated-length : (frames : List ℕ) (i : ℕ) {k : ℕ} {file : List ℕ} → WholeAt frames i k file
+    → restAt frames (suc i) ≡ drop k (restAt frames i)
+next-after-stated-length frames i whole = next-begins frames i (whole .due)
+
+-- "that many frame files laid end to end in one slice": each is whole, and is the frame of the camera of its place
+module _ (files : List (List ℕ)) (stated : all Stated files) where
+  pub laid-end-to-end : (more : List ℕ) (i : ℕ) → i < length files
+      → WholeAt (flatten files ++ more) i (length (getD files i [])) (getD files i [])
+  laid-end-to-end more i l = laid files more stated i l
+
+  -- "Bytes after the last frame aren't read"
+  pub behind-not-read : (n : ℕ) → n ≤ length files → (b : Buffers) (more other : List ℕ)
+      → (archOutcome n (flatten files ++ more) b ≡ archOutcome n (flatten files ++ other) b)
+      × (archBuffers n (flatten files ++ more) b ≡ archBuffers n (flatten files ++ other) b)
+  behind-not-read n l b more other =
+      by-files n (flatten files ++ more) (flatten files ++ other) b
+      (λ i m. file-is (laid-end-to-end more i (omega arith)) ∙ sym (file-is (laid-end-to-end other i (omega arith))))
+      (λ i m. read-is (laid-end-to-end more i (omega arith)) ∙ sym (read-is (laid-end-to-end other i (omega arith))))

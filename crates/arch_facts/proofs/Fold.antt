@@ -226,8 +226,8 @@ module _ (frames others : List ℕ) (size n : ℕ) (b : Buffers)
 abbrev pub reach : List ℕ → ℕ → Buffers → ℕ → ℕ
 reach frames size b i = fold max 0 (λ j. area (told frames size b j)) i
 
-abbrev pub scratchReach : List ℕ → ℕ → Buffers → ℕ → ℕ
-scratchReach frames size b i = fold max 0 (λ j. blurredArea (readAt frames j) (told frames size b j)) i
+abbrev pub blurredReach : List ℕ → ℕ → Buffers → ℕ → ℕ
+blurredReach frames size b i = fold max 0 (λ j. blurredArea (readAt frames j) (told frames size b j)) i
 
 -- ---- over two sets of buffers that are as long
 
@@ -249,7 +249,7 @@ module _ (frames : List ℕ) (size n : ℕ) (b c : Buffers) (room : n * size ≤
 
   abbrev Reached : ℕ → Type 0
   Reached i =
-      Writes (reach frames size b i) (scratchReach frames size b i) (b .map) (c .map)
+      Writes (reach frames size b i) (blurredReach frames size b i) (b .map) (c .map)
       ((leftBy frames size b i) .map) ((leftBy frames size c i) .map)
 
   work-next : (i : ℕ) → i < n → Reached i → Reached (suc i)

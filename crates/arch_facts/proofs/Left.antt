@@ -1,14 +1,15 @@
 -- What a call for an arch tells and leaves, by name, and the steps to it from the definitions. Assumes nothing.
 use mathlib.Core.Path.{_≡_, refl, sym, ap, _∙_}
 use mathlib.Core.List.{List}
-use Prim.Native.Nat.{ℕ, _+_, _*_, _/_, _≤_, _<_}
+use Prim.Native.Nat.{ℕ, suc, _+_, _*_, _/_, _≤_, _<_, max}
 use native.Mathlib.Omega.{arith}
 use borrow.Author.Tests.{eq-eqb, ltb-false}
 use lib.Ieee.{Float}
 use lib.ListN.{length, getD, take, drop, replicate, getD-replicate}
 use lib.Seq.{length-take-le}
 use Rattle.grid.specs.Fill.{filled}
-use Rattle.grid.proofs.Fill.{getD-filled, getD-beyond}
+use Rattle.grid.specs.Fold.{fold}
+use Rattle.grid.proofs.Fill.{getD-filled, getD-beyond, filled-ext}
 use Rattle.params.specs.declared.answers.Answer.the-variants.{Complete}
 use Rattle.params.specs.declared.answers.Outcome.{Outcome}
 use Rattle.params.specs.Answers.{numberOf}
@@ -23,7 +24,9 @@ use Rattle.arch.specs.declared.due.Due.the-variants.{Whole}
 use Rattle.arch.specs.Arch.{dueIn, restAt, shareSize, shareOf, leftBy, told, archRefusal, noFrame, archOutcome, archBuffers}
 use Rattle.arch.proofs.Frames.{whole-in}
 use Rattle.arch.proofs.Shares.{shares-in}
-use Rattle.arch_facts.proofs.Fold.{fileIn, readIn, fileAt, readAt, told-single, share-single}
+use Rattle.arch_facts.proofs.Single.{area, blurredArea, listed}
+use Rattle.arch_facts.proofs.Fold.{fileIn, readIn, fileAt, readAt, told-single, share-single, map-single}
+use Rattle.arch_facts.proofs.Fold.{told-by-files, left-by-files}
 
 -- 21 is not given to a call for n cameras over the buffers b
 abbrev pub Accepted : ℕ → Buffers → Type 0
@@ -51,6 +54,18 @@ workBefore n frames b i = (leftBy frames (size n b) b i) .map
 -- what the like single call is lent: "that share as its list", with those work buffers
 abbrev pub single : ℕ → List ℕ → Buffers → ℕ → Buffers
 single n frames b i = record { map = workBefore n frames b i; list = shareLent n b i }
+
+-- how far the work buffers are written: the greatest W·H of the cameras, and for the scratch the greatest of those whose blur radius is not 0. Those
+-- that are refused are told a W and an H of 0
+abbrev pub workReach : ℕ → List ℕ → Buffers → ℕ
+workReach n frames b = fold max 0 (λ i. area (toldTo n frames b i)) n
+
+abbrev pub scratchReach : ℕ → List ℕ → Buffers → ℕ
+scratchReach n frames b = fold max 0 (λ i. blurredArea (readAt frames i) (toldTo n frames b i)) n
+
+-- how many numbers of its share are written: those of as many corners as fit
+abbrev pub writtenTo : ℕ → List ℕ → Buffers → ℕ → ℕ
+writtenTo n frames b i = listed (toldTo n frames b i) (size n b)
 
 -- frame i lies whole in the slice: it has k bytes, and they are those of the file
 pub record WholeAt (frames : List ℕ) (i k : ℕ) (file : List ℕ) : Type 0 where
@@ -113,9 +128,21 @@ module _ (n : ℕ) (frames : List ℕ) (b : Buffers) (accepted : Accepted n b) w
     pub share-due : shareLeft n frames b i ≡ (buffersFor (fileAt frames i) (single n frames b i) (readAt frames i)) .list
     share-due = ap (λ (c : Buffers). shareOf (size n b) i (c .list)) buffers-are ∙ share-single frames (size n b) b n (taken .room) i goes
 
+    pub work-due : workBefore n frames b (suc i) ≡ (buffersFor (fileAt frames i) (single n frames b i) (readAt frames i)) .map
+    work-due = map-single frames (size n b) b n (taken .room) i goes
+
   -- an entry beyond the camera count
   pub told-beyond : (i : ℕ) → n ≤ i → i < 8 → toldTo n frames b i ≡ noFrame
   told-beyond i l m =
       ap (λ (o : ArchOutcome). getD (o .cameras) i noFrame) outcome-is
       ∙ getD-beyond n (told frames (size n b) b) (replicate 8 noFrame) i noFrame l
       ∙ getD-replicate 8 i noFrame noFrame m
+
+-- what is told and left depends on the slice by the files that are due
+pub by-files : (n : ℕ) (frames others : List ℕ) (b : Buffers)
+    → ((i : ℕ) → i < n → fileAt frames i ≡ fileAt others i) → ((i : ℕ) → i < n → readAt frames i ≡ readAt others i)
+    → (archOutcome n frames b ≡ archOutcome n others b) × (archBuffers n frames b ≡ archBuffers n others b)
+unfolding archOutcome archBuffers
+by-files n frames others b files reads =
+    (rw (filled-ext n _ _ (replicate 8 noFrame) (told-by-files frames others (size n b) n b files reads)),
+    rw (left-by-files frames others (size n b) n b files reads n (omega arith)))

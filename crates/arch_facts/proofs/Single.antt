@@ -6,12 +6,15 @@ use mathlib.Core.List.{List}
 use Prim.Native.Nat.{ℕ, zero, suc, _+_, _*_, _/_, _≤_, _<_, min, max}
 use native.Mathlib.Decide.{decLe}
 use native.Mathlib.Omega.{arith}
+use borrow.Author.Tests.{eq-eqb}
+use lib.Dec.{leb}
 use lib.Ieee.{Float}
 use lib.ListN.{length, take, drop}
 use Rattle.grid.specs.Ways.{pixel}
 use Rattle.grid.specs.Over.{written}
 use Rattle.grid.proofs.Fill.{length-filled}
 use Rattle.grid.proofs.Over.{length-over}
+use Rattle.params.specs.declared.answers.Answer.the-variants.{Complete, ListFull}
 use Rattle.params.specs.declared.answers.Outcome.{Outcome}
 use Rattle.params.specs.declared.settings.RadonDetectorParams.{RadonDetectorParams}
 use Rattle.params.specs.Answers.{numberOf, refused}
@@ -22,7 +25,7 @@ use Rattle.blur.specs.Blur.{scratched}
 use Rattle.detect.specs.Corners.{stride}
 use Rattle.frame.specs.declared.Reading.{Reading}
 use Rattle.frame.specs.declared.Reading.the-variants.{Frame, Refused}
-use Rattle.radon.specs.Finder.{Buffers, answered, outcomeOf, buffersOf}
+use Rattle.radon.specs.Finder.{Buffers, answered, found, outcomeOf, buffersOf}
 use Rattle.radon.proofs.Left.{Accepted, left-is, map-is}
 use Rattle.radon.proofs.Demands.{refusal-leaves-all, map-beyond-stays, list-beyond-stays, same-answer, same-map}
 use Rattle.radon.proofs.Demands.{list-is-corners, shorter-list}
@@ -129,6 +132,10 @@ listed o size = stride * min (o .count) (size / stride)
 none-listed : (size : ℕ) → stride * min 0 (size / stride) ≡ 0
 none-listed size = omega arith
 
+full-most : (t : Bool) → 1 < numberOf (cond t Complete ListFull) → ⊥
+full-most true l = omega arith
+full-most false l = omega arith
+
 abbrev listIn : Buffers → List Float
 listIn b = b .list
 
@@ -209,6 +216,20 @@ module _ (img : List ℕ) (w h : ℕ) (p : RadonDetectorParams) where
           ∙ e
           ∙ sym (ap listIn (refusal-leaves-all img w h p c (λ y. z (rw rooms y)) .1))
 
+  -- an answer above 1 is a refusal: with zeros, and no buffer changes
+  finder-refuses : (b : Buffers) → 1 < numberOf ((outcomeOf img w h p b) .answer)
+      → (outcomeOf img w h p b ≡ refused ((outcomeOf img w h p b) .answer)) × (buffersOf img w h p b ≡ b)
+  unfolding outcomeOf
+  finder-refuses b l = by (or-not (numberOf (answered img w h p b)))
+    where
+      by : Dec (Accepted img w h p b) → (outcomeOf img w h p b ≡ refused ((outcomeOf img w h p b) .answer)) × (buffersOf img w h p b ≡ b)
+      by (yes z) =
+          let all = leb (length (found (pixel img w) w h p)) (length (b .list) / stride) in
+          absurd (full-most all (rw (eq-eqb (numberOf (answered img w h p b)) 0 z) at l))
+      by (no z) =
+          let f = refusal-leaves-all img w h p b z in
+          (f .0 ∙ ap refused (sym (ap (λ (o : Outcome). o .answer) (f .0))), f .1)
+
 -- ---- that of a file which was read as r
 
 -- W·H where the scratch is used
@@ -225,6 +246,11 @@ module _ (file : List ℕ) where
       → (buffersFor file b r) .list ≡ (buffersFor file c r) .list
   read-list (Refused a) b c rooms e = e
   read-list (Frame h) b c rooms e = finder-list (drop 20 file) (h .width) (h .height) (h .params) b c rooms e
+
+  pub read-refuses : (r : Reading) (b : Buffers) → 1 < numberOf ((outcomeFor file b r) .answer)
+      → (outcomeFor file b r ≡ refused ((outcomeFor file b r) .answer)) × (buffersFor file b r ≡ b)
+  read-refuses (Refused a) b l = (refl, refl)
+  read-refuses (Frame h) b l = finder-refuses (drop 20 file) (h .width) (h .height) (h .params) b l
 
   module _ (b c : Buffers) (same : SameLengths b c) where
     pub read-told : (r : Reading) → outcomeFor file b r ≡ outcomeFor file c r
