@@ -7,26 +7,32 @@ use mathlib.Core.List.{List, [], _++_, flatten}
 use Prim.Native.Nat.{ℕ, suc, _+_, _*_, _/_, _≤_, _<_}
 use native.Mathlib.Decide.{decLt}
 use native.Mathlib.Omega.{arith}
+use borrow.Author.Tests.{le-ltb, ne-eqb}
 use lib.Ieee.{Float}
-use lib.ListN.{length, getD, take, drop}
+use lib.ListN.{length, getD, take, drop, replicate}
 use Rattle.grid.proofs.All.{all}
 use Rattle.big_endian.specs.BigEndian.{wordAt}
 use Rattle.params.specs.declared.answers.Answer.{Answer}
-use Rattle.params.specs.declared.answers.Answer.the-variants.{FileTooLong, FileTooShort, StatedLength}
+use Rattle.params.specs.declared.answers.Answer.the-variants.{Complete, FileTooLong, FileTooShort, StatedLength, Cameras}
 use Rattle.params.specs.declared.answers.Outcome.{Outcome}
 use Rattle.params.specs.Answers.{numberOf, refused}
+use Rattle.detect.specs.Corners.{stride}
 use Rattle.frame.specs.declared.Header.{Header}
 use Rattle.frame.specs.declared.Reading.the-variants.{Frame}
 use Rattle.frame.specs.FrameFile.{readOf}
 use Rattle.radon.specs.Finder.{Buffers, outcomeOf, buffersOf}
 use Rattle.frame_runner.specs.FileAnswer.{outcomeFor, fileOutcome, buffersFor, fileBuffers}
+use Rattle.arch.specs.declared.ArchOutcome.{ArchOutcome}
 use Rattle.arch.specs.declared.due.Due.{Due}
 use Rattle.arch.specs.declared.due.Due.the-variants.{Refused}
-use Rattle.arch.specs.Arch.{restAt, dueIn, leftBy, noFrame, archOutcome, archBuffers}
+use Rattle.arch.specs.Arch.{restAt, dueIn, leftBy, noFrame, archRefusal, archOutcome, archBuffers}
 use Rattle.arch.proofs.Frames.{too-short, past-the-end, lies-whole}
-use Rattle.arch_facts.proofs.Fold.{fileIn, readIn, fileAt, readAt}
+use Rattle.arch.proofs.Cameras.{SameLengths}
+use Rattle.arch_facts.proofs.Single.{Writes, same-lengths, read-refuses}
+use Rattle.arch_facts.proofs.Fold.{fileIn, readIn, fileAt, readAt, drop-lent}
 use Rattle.arch_facts.proofs.Left.{Accepted, size, toldTo, shareLent, shareLeft, workBefore, single, WholeAt, whole-long, file-is, read-is}
-use Rattle.arch_facts.proofs.Left.{taken, buffers-are, told-due, share-due, work-due, told-beyond, by-files}
+use Rattle.arch_facts.proofs.Left.{writtenTo, workReach, scratchReach, taken, outcome-is, buffers-are, told-due, share-due, work-due, told-beyond}
+use Rattle.arch_facts.proofs.Left.{by-files, told-alike, shares-alike, work-alike}
 use Rattle.arch_facts.proofs.Laid.{next-begins, later-ones, Stated, laid}
 use Rattle.arch_facts.proofs.Ten.{same-reading, told-not-ten, due-not-ten}
 
@@ -152,3 +158,62 @@ module _ (files : List (List ℕ)) (stated : all Stated files) where
       by-files n (flatten files ++ more) (flatten files ++ other) b
       (λ i m. file-is (laid-end-to-end more i (omega arith)) ∙ sym (file-is (laid-end-to-end other i (omega arith))))
       (λ i m. read-is (laid-end-to-end more i (omega arith)) ∙ sym (read-is (laid-end-to-end other i (omega arith))))
+
+-- ---- 3. Demand 1. "Bad input gets a numbered refusal, a count of zero and untouched buffers. What a buffer held before the call changes no answer
+-- and no written number."
+
+-- "Refusals: 21, a camera count not 2 to 8 or a list too short for one corner a camera, before any frame is read: all counts 0, no buffer changed."
+module _ (n : ℕ) (frames : List ℕ) (b : Buffers) where
+  pub accepted-where : 2 ≤ n → n ≤ 8 → n ≤ length (b .list) / stride → Accepted n b
+  unfolding archRefusal
+  accepted-where u v l = rw (le-ltb n 2 u, le-ltb 8 n v, le-ltb (length (b .list) / stride) n l)
+
+  pub accepted-only : Accepted n b → (2 ≤ n) × (n ≤ 8) × (n ≤ length (b .list) / stride)
+  accepted-only z =
+      let t = taken n frames b z in
+      (t .least, t .most, t .corner)
+
+  pub arch-refusal-leaves-all : (Accepted n b → ⊥)
+      → _≡_ {A = ArchOutcome} (archOutcome n frames b) (record { answer = Cameras; cameras = replicate 8 (refused Cameras) })
+      × (archBuffers n frames b ≡ b)
+  unfolding archOutcome archBuffers
+  arch-refusal-leaves-all z = rw (ne-eqb (numberOf (archRefusal n (length (b .list)))) 0 z) (refl, refl)
+
+  -- otherwise the call's own answer is 0
+  pub own-answer : Accepted n b → (archOutcome n frames b) .answer ≡ Complete
+  own-answer z = ap (λ (o : ArchOutcome). o .answer) (outcome-is n frames b z)
+
+  -- "A refused frame stops nobody": a camera with an answer above 1 is told zeros, and leaves all as it was
+  pub refused-camera-leaves-all : (z : Accepted n b) (i : ℕ) → i < n → 1 < numberOf ((toldTo n frames b i) .answer)
+      → LeavesAll n frames b z i ((toldTo n frames b i) .answer)
+  refused-camera-leaves-all z i l above =
+      let t = told-due n frames b z i l in
+      let f = read-refuses (fileAt frames i) (readAt frames i) (single n frames b i) (rw t at above) in
+      (rw t (f .0),
+      share-due n frames b z i l ∙ ap (λ (c : Buffers). c .list) (f .1),
+      work-due n frames b z i l ∙ ap (λ (c : Buffers). c .map) (f .1))
+
+  -- "Entries beyond stay": the rest of a share, and "the remainder unused" behind the last one
+  pub share-beyond-stays : Accepted n b → (i : ℕ) → i < n
+      → drop (writtenTo n frames b i) (shareLeft n frames b i) ≡ drop (writtenTo n frames b i) (shareLent n b i)
+  share-beyond-stays z i l = shares-alike n frames b b z (same-lengths b) i l .stays
+
+  pub remainder-stays : Accepted n b → drop (n * size n b) ((archBuffers n frames b) .list) ≡ drop (n * size n b) (b .list)
+  remainder-stays z =
+      rw (buffers-are n frames b z)
+      (drop-lent frames (size n b) b n (taken n frames b z .room) n n (omega arith) (omega arith))
+
+-- Two calls over buffers with the same lengths, whatever these held before
+module _ (n : ℕ) (frames : List ℕ) (b c : Buffers) (same : SameLengths b c) where
+  pub same-answers : archOutcome n frames b ≡ archOutcome n frames c
+  same-answers = told-alike n frames b c same
+
+  pub same-shares : Accepted n b → (i : ℕ) → i < n
+      → take (writtenTo n frames b i) (shareLeft n frames b i) ≡ take (writtenTo n frames b i) (shareLeft n frames c i)
+  same-shares z i l = shares-alike n frames b c z same i l .same
+
+  -- the first W·H entries of each work buffer, W·H being the greatest of the cameras', are the same in both, and those beyond are as they were: of
+  -- the scratch the greatest of those with a blur (`Writes` has a field for each of the seven)
+  pub same-work : Accepted n b
+      → Writes (workReach n frames b) (scratchReach n frames b) (b .map) (c .map) ((archBuffers n frames b) .map) ((archBuffers n frames c) .map)
+  same-work z = work-alike n frames b c z same

@@ -9,6 +9,7 @@ use lib.ListN.{length, getD, take, drop, replicate, getD-replicate}
 use lib.Seq.{length-take-le}
 use Rattle.grid.specs.Fill.{filled}
 use Rattle.grid.specs.Fold.{fold}
+use Rattle.grid.proofs.Fold.{fold-ext}
 use Rattle.grid.proofs.Fill.{getD-filled, getD-beyond, filled-ext}
 use Rattle.params.specs.declared.answers.Answer.the-variants.{Complete}
 use Rattle.params.specs.declared.answers.Outcome.{Outcome}
@@ -23,10 +24,12 @@ use Rattle.arch.specs.declared.ArchOutcome.{ArchOutcome}
 use Rattle.arch.specs.declared.due.Due.the-variants.{Whole}
 use Rattle.arch.specs.Arch.{dueIn, restAt, shareSize, shareOf, leftBy, told, archRefusal, noFrame, archOutcome, archBuffers}
 use Rattle.arch.proofs.Frames.{whole-in}
+use Rattle.arch.proofs.Cameras.{SameLengths}
 use Rattle.arch.proofs.Shares.{shares-in}
-use Rattle.arch_facts.proofs.Single.{area, blurredArea, listed}
+use Rattle.arch_facts.proofs.Parts.{Wrote}
+use Rattle.arch_facts.proofs.Single.{Writes, area, blurredArea, listed}
 use Rattle.arch_facts.proofs.Fold.{fileIn, readIn, fileAt, readAt, told-single, share-single, map-single}
-use Rattle.arch_facts.proofs.Fold.{told-by-files, left-by-files}
+use Rattle.arch_facts.proofs.Fold.{told-by-files, left-by-files, told-same, share-writes, reach, blurredReach, work-writes}
 
 -- 21 is not given to a call for n cameras over the buffers b
 abbrev pub Accepted : ℕ → Buffers → Type 0
@@ -146,3 +149,43 @@ unfolding archOutcome archBuffers
 by-files n frames others b files reads =
     (rw (filled-ext n _ _ (replicate 8 noFrame) (told-by-files frames others (size n b) n b files reads)),
     rw (left-by-files frames others (size n b) n b files reads n (omega arith)))
+
+-- ---- two calls over buffers that are as long
+
+module _ (n : ℕ) (frames : List ℕ) (b c : Buffers) where
+  abbrev s : ℕ
+  s = size n b
+
+  pub told-alike : SameLengths b c → archOutcome n frames b ≡ archOutcome n frames c
+  unfolding archOutcome
+  told-alike same =
+      let tells = told-same frames s n b c (shares-in stride n (length (b .list))) same in
+      rw (same .list, filled-ext n (told frames s b) (told frames s c) (replicate 8 noFrame) tells)
+
+  module _ (accepted : Accepted n b) (same : SameLengths b c) where
+    abbrev room : n * s ≤ length (b .list)
+    room = taken n frames b accepted .room
+
+    too : Accepted n c
+    too = rw (same .list) accepted
+
+    left-too : archBuffers n frames c ≡ leftBy frames s c n
+    left-too = rw (same .list) at (buffers-are n frames c too)
+
+    pub shares-alike : (i : ℕ) → i < n
+        → Wrote (writtenTo n frames b i) (shareLent n b i) (shareLent n c i) (shareLeft n frames b i) (shareLeft n frames c i)
+    shares-alike i l =
+        rw (told-is n frames b accepted i l, buffers-are n frames b accepted, left-too, same .list)
+        (share-writes frames s n b c room same i l)
+
+    work-reach : workReach n frames b ≡ reach frames s b n
+    work-reach = fold-ext max 0 _ _ n (λ i l. ap area (told-is n frames b accepted i l))
+
+    scratch-reach : scratchReach n frames b ≡ blurredReach frames s b n
+    scratch-reach = fold-ext max 0 _ _ n (λ i l. ap (blurredArea (readAt frames i)) (told-is n frames b accepted i l))
+
+    pub work-alike :
+        Writes (workReach n frames b) (scratchReach n frames b) (b .map) (c .map) ((archBuffers n frames b) .map) ((archBuffers n frames c) .map)
+    work-alike =
+        rw (buffers-are n frames b accepted, left-too, work-reach, scratch-reach)
+        (work-writes frames s n b c room same n (omega arith))
