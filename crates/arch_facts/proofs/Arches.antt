@@ -8,19 +8,25 @@ use Prim.Native.Nat.{ℕ, suc, _+_, _*_, _/_, _≤_, _<_}
 use native.Mathlib.Decide.{decLt}
 use native.Mathlib.Omega.{arith}
 use borrow.Author.Tests.{le-ltb, ne-eqb}
-use lib.Ieee.{Float}
+use lib.Dec.{T}
+use lib.Ieee.{Float, le}
 use lib.ListN.{length, getD, take, drop, replicate}
 use Rattle.grid.proofs.All.{all}
 use Rattle.big_endian.specs.BigEndian.{wordAt}
 use Rattle.params.specs.declared.answers.Answer.{Answer}
 use Rattle.params.specs.declared.answers.Answer.the-variants.{Complete, FileTooLong, FileTooShort, StatedLength, Cameras}
 use Rattle.params.specs.declared.answers.Outcome.{Outcome}
+use Rattle.params.specs.declared.settings.RadonDetectorParams.{RadonDetectorParams}
 use Rattle.params.specs.Answers.{numberOf, refused}
 use Rattle.detect.specs.Corners.{stride}
+use Rattle.detect.proofs.HigherSettings.{raised}
 use Rattle.frame.specs.declared.Header.{Header}
 use Rattle.frame.specs.declared.Reading.the-variants.{Frame}
 use Rattle.frame.specs.FrameFile.{readOf}
 use Rattle.radon.specs.Finder.{Buffers, outcomeOf, buffersOf}
+use Rattle.radon.proofs.Left.{Accepted as FinderAccepted}
+use Rattle.radon.proofs.Lists.{roomIn}
+use Rattle.radon.proofs.Demands.{pixels, higher-setting, shorter-list, raised-frame-same-map}
 use Rattle.frame_runner.specs.FileAnswer.{outcomeFor, fileOutcome, buffersFor, fileBuffers}
 use Rattle.arch.specs.declared.ArchOutcome.{ArchOutcome}
 use Rattle.arch.specs.declared.due.Due.{Due}
@@ -28,11 +34,12 @@ use Rattle.arch.specs.declared.due.Due.the-variants.{Refused}
 use Rattle.arch.specs.Arch.{restAt, dueIn, leftBy, noFrame, archRefusal, archOutcome, archBuffers}
 use Rattle.arch.proofs.Frames.{too-short, past-the-end, lies-whole}
 use Rattle.arch.proofs.Cameras.{SameLengths}
-use Rattle.arch_facts.proofs.Single.{Writes, same-lengths, read-refuses}
-use Rattle.arch_facts.proofs.Fold.{fileIn, readIn, fileAt, readAt, drop-lent}
+use Rattle.arch_facts.proofs.Single.{Writes, same-lengths, rooms-same, read-refuses, read-told, read-list}
+use Rattle.arch_facts.proofs.Fold.{fileIn, readIn, fileAt, readAt, drop-lent, share-long}
 use Rattle.arch_facts.proofs.Left.{Accepted, size, toldTo, shareLent, shareLeft, workBefore, single, WholeAt, whole-long, file-is, read-is}
 use Rattle.arch_facts.proofs.Left.{writtenTo, workReach, scratchReach, taken, outcome-is, buffers-are, told-due, share-due, work-due, told-beyond}
-use Rattle.arch_facts.proofs.Left.{by-files, told-alike, shares-alike, work-alike}
+use Rattle.arch_facts.proofs.Left.{by-files, told-alike, shares-alike, work-alike, alone, single-long, alone-long}
+use Rattle.arch_facts.proofs.Lists.{ListFiltered, ListOpens, Finds, filtered, opens}
 use Rattle.arch_facts.proofs.Laid.{next-begins, later-ones, Stated, laid}
 use Rattle.arch_facts.proofs.Ten.{same-reading, told-not-ten, due-not-ten}
 
@@ -217,3 +224,93 @@ module _ (n : ℕ) (frames : List ℕ) (b c : Buffers) (same : SameLengths b c) 
   pub same-work : Accepted n b
       → Writes (workReach n frames b) (scratchReach n frames b) (b .map) (c .map) ((archBuffers n frames b) .map) ((archBuffers n frames c) .map)
   same-work z = work-alike n frames b c z same
+
+-- ---- 4. Others change nothing: camera i is told and leaves what a call on its own would, over the work buffers as they were lent
+
+module _ (n : ℕ) (frames : List ℕ) (b : Buffers) (accepted : Accepted n b) (i : ℕ) (goes : i < n)
+    {k : ℕ} {file : List ℕ} (whole : WholeAt frames i k file) where
+  pub camera-alone :
+      (toldTo n frames b i ≡ fileOutcome k file (alone n b i)) × (shareLeft n frames b i ≡ (fileBuffers k file (alone n b i)) .list)
+  unfolding fileOutcome fileBuffers
+  camera-alone =
+      let call = camera-is-single-call n frames b accepted i goes whole in
+      let same = single-long n frames b accepted i goes in
+      (call .0 ∙ sym (read-told file _ _ same (readOf k file)), call .1 ∙ sym (read-list file (readOf k file) _ _ (rooms-same same) refl))
+
+-- so whatever else stands in the slice, and whatever the other shares and the work buffers hold, it is told and leaves the same: "A refused frame
+-- stops nobody"
+pub others-change-nothing : (n : ℕ) (frames others : List ℕ) (b c : Buffers) → Accepted n b → SameLengths b c → (i : ℕ) → i < n
+    → shareLent n b i ≡ shareLent n c i → {k : ℕ} {file : List ℕ} → WholeAt frames i k file → WholeAt others i k file
+    → (toldTo n frames b i ≡ toldTo n others c i) × (shareLeft n frames b i ≡ shareLeft n others c i)
+unfolding fileOutcome fileBuffers
+others-change-nothing n frames others b c z same i l lent {k} {file} whole again =
+    let one = camera-alone n frames b z i l whole in
+    let two = camera-alone n others c (rw (same .list) z) i l again in
+    let as-long = alone-long n b c same i lent in
+    (one .0 ∙ read-told file _ _ as-long (readOf k file) ∙ sym (two .0),
+    one .1 ∙ read-list file (readOf k file) _ _ (rooms-same as-long) lent ∙ sym (two .1))
+
+-- ---- 5. "Where 21 isn't given, demand 3 holds frame by frame, its map clause for the map of the like single call."
+
+-- camera i of a call has a whole frame that is read as the pixels img, w wide and h high, with the settings p; and the finder takes it
+pub record Reads (n : ℕ) (frames : List ℕ) (b : Buffers) (i : ℕ) (img : List ℕ) (w h : ℕ) (p : RadonDetectorParams) : Type 0 where
+  pub accepted : Accepted n b
+  pub goes : i < n
+  pub k : ℕ
+  pub file : List ℕ
+  pub whole : WholeAt frames i k file
+  pub header : Header
+  pub read : readOf k file ≡ Frame header
+  pub pixels-are : drop 20 file ≡ img
+  pub wide : header .width ≡ w
+  pub high : header .height ≡ h
+  pub settings : header .params ≡ p
+  pub takes : FinderAccepted img w h p (single n frames b i)
+
+module _ {n : ℕ} {frames : List ℕ} {b : Buffers} {i : ℕ} {img : List ℕ} {w h : ℕ} {p : RadonDetectorParams} (r : Reads n frames b i img w h p) where
+  finds : Finds img w h p (single n frames b i) (toldTo n frames b i) (shareLeft n frames b i)
+  finds =
+      let c = single n frames b i in
+      let call = camera-is-finder-call n frames b (r .accepted) i (r .goes) (r .whole) (r .header) (r .read) in
+      record {
+        told = call .0 ∙ (λ j. outcomeOf (r .pixels-are j) (r .wide j) (r .high j) (r .settings j) c);
+        left = call .1 ∙ (λ j. (buffersOf (r .pixels-are j) (r .wide j) (r .high j) (r .settings j) c) .list);
+      }
+
+  share-is-long : length (shareLent n b i) ≡ size n b
+  share-is-long = share-long (size n b) n i (b .list) (taken n frames b (r .accepted) .room) (r .goes)
+
+  room-is : roomIn (single n frames b i) ≡ size n b / stride
+  room-is = ap (λ (m : ℕ). m / stride) share-is-long
+
+-- camera i of one call and camera j of another, or of the same one
+module _ (n : ℕ) (frames : List ℕ) (b : Buffers) (i : ℕ) (m : ℕ) (others : List ℕ) (c : Buffers) (j : ℕ) (w h : ℕ) (p : RadonDetectorParams) where
+  -- "The higher setting's list is exactly those of the lower's corners that pass the higher floor and count, in order, bits unchanged.", with room
+  -- in both shares for all corners of the lower
+  pub higher-setting-by-frame : (img : List ℕ) (t : Float) (least : ℕ) → Reads n frames b i img w h p → Reads m others c j img w h (raised p t least)
+      → T (le (p .«threshold_rel») t) → p .«min_cluster_size» ≤ least
+      → (toldTo n frames b i) .count ≤ size n b / stride → (toldTo n frames b i) .count ≤ size m c / stride
+      → ListFiltered img w h p t least (single n frames b i) (single m others c j)
+      (toldTo n frames b i) (shareLeft n frames b i) (toldTo m others c j) (shareLeft m others c j)
+  higher-setting-by-frame img t least low high above more fits fits-too =
+      let count = ap (λ (o : Outcome). o .count) (finds low .told) in
+      filtered (finds low) (finds high)
+      (higher-setting img w h p t least (single n frames b i) (single m others c j) (low .takes) (high .takes) above more
+      (omega (arith, room-is low)) (omega (arith, room-is high)))
+
+  -- "A shorter list holds the opening corners of a longer one, with the same total."
+  pub shorter-list-by-frame : (img : List ℕ) → Reads n frames b i img w h p → Reads m others c j img w h p → size n b ≤ size m c
+      → ListOpens img w h p (single n frames b i) (single m others c j)
+      (toldTo n frames b i) (shareLeft n frames b i) (toldTo m others c j) (shareLeft m others c j)
+  shorter-list-by-frame img short long l =
+      opens (finds short) (finds long)
+      (shorter-list img w h p (single n frames b i) (single m others c j) (short .takes) (long .takes)
+      (omega (arith, share-is-long short, share-is-long long)))
+
+  -- "A frame raised evenly by some grey steps, no pixel past 255, has the same map, bit for bit": the map of the like single calls
+  pub raised-frame-by-frame : (img up : List ℕ) (step : ℕ) → Reads n frames b i img w h p → Reads m others c j up w h p
+      → ((x : ℕ) → x < length img → getD up x 0 ≡ getD img x 0 + step)
+      → take (pixels w h p) ((buffersOf up w h p (single m others c j)) .map .response)
+      ≡ take (pixels w h p) ((buffersOf img w h p (single n frames b i)) .map .response)
+  raised-frame-by-frame img up step r s e =
+      raised-frame-same-map img up step w h p (single n frames b i) (single m others c j) (r .takes) (s .takes) e

@@ -28,7 +28,7 @@ use Rattle.arch.proofs.Cameras.{SameLengths}
 use Rattle.arch.proofs.Shares.{shares-in}
 use Rattle.arch_facts.proofs.Parts.{Wrote}
 use Rattle.arch_facts.proofs.Single.{Writes, area, blurredArea, listed}
-use Rattle.arch_facts.proofs.Fold.{fileIn, readIn, fileAt, readAt, told-single, share-single, map-single}
+use Rattle.arch_facts.proofs.Fold.{fileIn, readIn, fileAt, readAt, long, told-single, share-single, map-single}
 use Rattle.arch_facts.proofs.Fold.{told-by-files, left-by-files, told-same, share-writes, reach, blurredReach, work-writes}
 
 -- 21 is not given to a call for n cameras over the buffers b
@@ -57,6 +57,10 @@ workBefore n frames b i = (leftBy frames (size n b) b i) .map
 -- what the like single call is lent: "that share as its list", with those work buffers
 abbrev pub single : ℕ → List ℕ → Buffers → ℕ → Buffers
 single n frames b i = record { map = workBefore n frames b i; list = shareLent n b i }
+
+-- what a call on its own is lent: the share, and the work buffers as they were lent to all
+abbrev pub alone : ℕ → Buffers → ℕ → Buffers
+alone n b i = record { map = b .map; list = shareLent n b i }
 
 -- how far the work buffers are written: the greatest W·H of the cameras, and for the scratch the greatest of those whose blur radius is not 0. Those
 -- that are refused are told a W and an H of 0
@@ -134,6 +138,21 @@ module _ (n : ℕ) (frames : List ℕ) (b : Buffers) (accepted : Accepted n b) w
     pub work-due : workBefore n frames b (suc i) ≡ (buffersFor (fileAt frames i) (single n frames b i) (readAt frames i)) .map
     work-due = map-single frames (size n b) b n (taken .room) i goes
 
+    -- what it is lent is as long as what was lent to all
+    pub single-long : SameLengths (alone n b i) (single n frames b i)
+    single-long =
+        let long = long frames (size n b) b n (taken .room) i (omega arith) in
+        record {
+          working = long .working;
+          row = long .row;
+          col = long .col;
+          falling = long .falling;
+          rising = long .rising;
+          response = long .response;
+          scratch = long .scratch;
+          list = refl;
+        }
+
   -- an entry beyond the camera count
   pub told-beyond : (i : ℕ) → n ≤ i → i < 8 → toldTo n frames b i ≡ noFrame
   told-beyond i l m =
@@ -189,3 +208,17 @@ module _ (n : ℕ) (frames : List ℕ) (b c : Buffers) where
     work-alike =
         rw (buffers-are n frames b accepted, left-too, work-reach, scratch-reach)
         (work-writes frames s n b c room same n (omega arith))
+
+-- the same share of two sets of buffers that are as long
+pub alone-long : (n : ℕ) (b c : Buffers) → SameLengths b c → (i : ℕ) → shareLent n b i ≡ shareLent n c i
+    → SameLengths (alone n b i) (alone n c i)
+alone-long n b c same i lent = record {
+  working = same .working;
+  row = same .row;
+  col = same .col;
+  falling = same .falling;
+  rising = same .rising;
+  response = same .response;
+  scratch = same .scratch;
+  list = sym (ap length lent);
+}

@@ -5,4 +5,5 @@ pub mod Fold
 pub mod Left
 pub mod Ten
 pub mod Laid
+pub mod Lists
 pub mod Arches
