@@ -2,4 +2,5 @@
 pub mod Frames
 pub mod Shares
 pub mod Cases
+pub mod Judged
 pub mod Cameras
