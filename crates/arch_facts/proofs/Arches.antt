@@ -53,9 +53,10 @@ module _ (n : ℕ) (frames : List ℕ) (b : Buffers) (accepted : Accepted n b) w
         × (shareLeft n frames b i ≡ (fileBuffers k file (single n frames b i)) .list)
     unfolding fileOutcome fileBuffers
     camera-is-single-call =
-        let c = single n frames b i in
-        (told-due n frames b accepted i goes ∙ (λ j. outcomeFor (file-is whole j) c (read-is whole j)),
-        share-due n frames b accepted i goes ∙ (λ j. (buffersFor (file-is whole j) c (read-is whole j)) .list))
+        let c = single n frames b i in (
+          told-due n frames b accepted i goes ∙ (λ j. outcomeFor (file-is whole j) c (read-is whole j)),
+          share-due n frames b accepted i goes ∙ (λ j. (buffersFor (file-is whole j) c (read-is whole j)) .list),
+        )
 
     -- "the work buffers as the earlier frames left them": what it leaves of them is what the next one is lent
     pub work-is-single-call : workBefore n frames b (suc i) ≡ (fileBuffers k file (single n frames b i)) .map
@@ -71,9 +72,10 @@ module _ (n : ℕ) (frames : List ℕ) (b : Buffers) (accepted : Accepted n b) w
           × (shareLeft n frames b i ≡ (buffersOf (drop 20 file) (h .width) (h .height) (h .params) (single n frames b i)) .list)
       unfolding fileOutcome fileBuffers
       camera-is-finder-call =
-          let call = camera-is-single-call in
-          (call .0 ∙ ap (outcomeFor file (single n frames b i)) read,
-          call .1 ∙ ap (λ r. (buffersFor file (single n frames b i) r) .list) read)
+          let call = camera-is-single-call in (
+            call .0 ∙ ap (outcomeFor file (single n frames b i)) read,
+            call .1 ∙ ap (λ r. (buffersFor file (single n frames b i) r) .list) read,
+          )
 
   -- the first is lent the work buffers as they were, and after the last they are those that the call leaves
   pub work-first : workBefore n frames b 0 ≡ b .map
@@ -120,10 +122,11 @@ module _ (n : ℕ) (frames : List ℕ) (b : Buffers) (accepted : Accepted n b) w
     pub not-whole : (a : Answer) → dueIn (restAt frames i) ≡ Refused a → LeavesAll i a
     not-whole a e =
         let c = single n frames b i in
-        let rest = restAt frames i in
-        (told-due n frames b accepted i goes ∙ ap (λ (d : Due). outcomeFor (fileIn rest d) c (readIn rest d)) e,
-        share-due n frames b accepted i goes ∙ ap (λ (d : Due). (buffersFor (fileIn rest d) c (readIn rest d)) .list) e,
-        work-due n frames b accepted i goes ∙ ap (λ (d : Due). (buffersFor (fileIn rest d) c (readIn rest d)) .map) e)
+        let rest = restAt frames i in (
+          told-due n frames b accepted i goes ∙ ap (λ (d : Due). outcomeFor (fileIn rest d) c (readIn rest d)) e,
+          share-due n frames b accepted i goes ∙ ap (λ (d : Due). (buffersFor (fileIn rest d) c (readIn rest d)) .list) e,
+          work-due n frames b accepted i goes ∙ ap (λ (d : Due). (buffersFor (fileIn rest d) c (readIn rest d)) .map) e,
+        )
 
     -- "with under five bytes left it answers 11"
     pub under-five-bytes : length (restAt frames i) < 5 → LeavesAll i FileTooShort
@@ -195,10 +198,11 @@ module _ (n : ℕ) (frames : List ℕ) (b : Buffers) where
       → LeavesAll n frames b z i ((toldTo n frames b i) .answer)
   refused-camera-leaves-all z i l above =
       let t = told-due n frames b z i l in
-      let f = read-refuses (fileAt frames i) (readAt frames i) (single n frames b i) (rw t at above) in
-      (rw t (f .0),
-      share-due n frames b z i l ∙ ap (λ (c : Buffers). c .list) (f .1),
-      work-due n frames b z i l ∙ ap (λ (c : Buffers). c .map) (f .1))
+      let f = read-refuses (fileAt frames i) (readAt frames i) (single n frames b i) (rw t at above) in (
+        rw t (f .0),
+        share-due n frames b z i l ∙ ap (λ (c : Buffers). c .list) (f .1),
+        work-due n frames b z i l ∙ ap (λ (c : Buffers). c .map) (f .1),
+      )
 
   -- "Entries beyond stay": the rest of a share, and "the remainder unused" behind the last one
   pub share-beyond-stays : Accepted n b → (i : ℕ) → i < n
@@ -246,9 +250,10 @@ unfolding fileOutcome fileBuffers
 others-change-nothing n frames others b c z same i l lent {k} {file} whole again =
     let one = camera-alone n frames b z i l whole in
     let two = camera-alone n others c (rw (same .list) z) i l again in
-    let as-long = alone-long n b c same i lent in
-    (one .0 ∙ read-told file _ _ as-long (readOf k file) ∙ sym (two .0),
-    one .1 ∙ read-list file (readOf k file) _ _ (rooms-same as-long) lent ∙ sym (two .1))
+    let as-long = alone-long n b c same i lent in (
+      one .0 ∙ read-told file _ _ as-long (readOf k file) ∙ sym (two .0),
+      one .1 ∙ read-list file (readOf k file) _ _ (rooms-same as-long) lent ∙ sym (two .1),
+    )
 
 -- ---- 5. "Where 21 isn't given, demand 3 holds frame by frame, its map clause for the map of the like single call."
 

@@ -2,7 +2,7 @@
 -- that is due. Assumes nothing.
 use mathlib.Core.Path.{_≡_, refl, sym, ap, _∙_}
 use mathlib.Core.List.{List, []}
-use Prim.Native.Nat.{ℕ, zero, suc, _+_, _-_, _*_, _≤_, _<_, min, max}
+use Prim.Native.Nat.{ℕ, zero, suc, _+_, _*_, _≤_, _<_, max}
 use native.Mathlib.Nat.{le-refl}
 use native.Mathlib.Decide.{decLt}
 use native.Mathlib.Omega.{arith}
@@ -10,7 +10,6 @@ use lib.Ieee.{Float}
 use lib.ListN.{length, take, drop, length-take, length-drop}
 use lib.Seq.{length-take-le}
 use Rattle.grid.specs.Fold.{fold}
-use Rattle.params.specs.declared.answers.Outcome.{Outcome}
 use Rattle.frame.specs.declared.Reading.{Reading}
 use Rattle.frame.specs.declared.Reading.the-variants as reading
 use Rattle.frame.specs.FrameFile.{readOf}
@@ -21,7 +20,7 @@ use Rattle.arch.specs.declared.due.Due.the-variants.{Whole, Refused}
 use Rattle.arch.specs.Arch.{dueIn, restAt, cameraOutcome, cameraBuffers, shareOf, lentTo, backFrom, leftBy, told}
 use Rattle.arch.proofs.Cameras.{SameLengths}
 use Rattle.arch.proofs.Shares.{share-in}
-use Rattle.arch_facts.proofs.Parts.{put-long, part-put, drop-put, part-before-put, Wrote, drop-further}
+use Rattle.arch_facts.proofs.Parts.{put-long, part-put, drop-put, part-before-put, Wrote}
 use Rattle.arch_facts.proofs.Single.{Writes, writes-none, writes-then, area, blurredArea, listed, same-lengths}
 use Rattle.arch_facts.proofs.Single.{read-long, read-told, read-writes}
 

@@ -1,11 +1,11 @@
 -- Where the frames stand in the slice: behind a whole one the next begins, behind one that is not whole nothing is left, and files laid end to end
 -- are found whole, each as it is. Assumes nothing.
 use mathlib.Core.Path.{_≡_, refl, sym, ap, _∙_}
-use mathlib.Core.List.{List, [], _∷_, _++_, flatten, append-assoc}
+use mathlib.Core.List.{List, [], _++_, flatten, append-assoc}
 use Prim.Native.Nat.{ℕ, zero, suc, _+_, _≤_, _<_}
 use native.Mathlib.Decide.{decLt}
 use native.Mathlib.Omega.{arith}
-use lib.ListN.{length, getD, take, drop, length-append, List·getD-append}
+use lib.ListN.{length, getD, drop, length-append, List·getD-append}
 use lib.Seq.{drop-cons, take-append-seam, drop-append-seam}
 use Rattle.grid.proofs.All.{all}
 use Rattle.grid.proofs.Entries.{all-at}
@@ -54,8 +54,12 @@ stated-due : (file more : List ℕ) → Stated file → dueIn (file ++ more) ≡
 stated-due file more stated =
     let long : length (file ++ more) ≡ length file + length more = length-append file more in
     let word : wordAt file 1 ≡ wordAt (file ++ more) 1 =
-    sym (rw (List·getD-append file more 0 1 (omega arith), List·getD-append file more 0 2 (omega arith),
-    List·getD-append file more 0 3 (omega arith), List·getD-append file more 0 4 (omega arith))) in
+    sym (rw (
+      List·getD-append file more 0 1 (omega arith),
+      List·getD-append file more 0 2 (omega arith),
+      List·getD-append file more 0 3 (omega arith),
+      List·getD-append file more 0 4 (omega arith),
+    )) in
     sym (lies-whole (file ++ more) word (omega arith) (omega arith)) ∙ ap Whole (sym stated)
 
 module _ (files : List (List ℕ)) (more : List ℕ) (stated : all Stated files) where

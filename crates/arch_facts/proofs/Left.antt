@@ -1,11 +1,11 @@
 -- What a call for an arch tells and leaves, by name, and the steps to it from the definitions. Assumes nothing.
 use mathlib.Core.Path.{_≡_, refl, sym, ap, _∙_}
 use mathlib.Core.List.{List}
-use Prim.Native.Nat.{ℕ, suc, _+_, _*_, _/_, _≤_, _<_, max}
+use Prim.Native.Nat.{ℕ, suc, _*_, _/_, _≤_, _<_, max}
 use native.Mathlib.Omega.{arith}
 use borrow.Author.Tests.{eq-eqb, ltb-false}
 use lib.Ieee.{Float}
-use lib.ListN.{length, getD, take, drop, replicate, getD-replicate}
+use lib.ListN.{length, getD, take, replicate, getD-replicate}
 use lib.Seq.{length-take-le}
 use Rattle.grid.specs.Fill.{filled}
 use Rattle.grid.specs.Fold.{fold}
@@ -165,9 +165,10 @@ pub by-files : (n : ℕ) (frames others : List ℕ) (b : Buffers)
     → ((i : ℕ) → i < n → fileAt frames i ≡ fileAt others i) → ((i : ℕ) → i < n → readAt frames i ≡ readAt others i)
     → (archOutcome n frames b ≡ archOutcome n others b) × (archBuffers n frames b ≡ archBuffers n others b)
 unfolding archOutcome archBuffers
-by-files n frames others b files reads =
-    (rw (filled-ext n _ _ (replicate 8 noFrame) (told-by-files frames others (size n b) n b files reads)),
-    rw (left-by-files frames others (size n b) n b files reads n (omega arith)))
+by-files n frames others b files reads = (
+  rw (filled-ext n _ _ (replicate 8 noFrame) (told-by-files frames others (size n b) n b files reads)),
+  rw (left-by-files frames others (size n b) n b files reads n (omega arith)),
+)
 
 -- ---- two calls over buffers that are as long
 

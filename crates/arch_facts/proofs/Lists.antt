@@ -1,10 +1,9 @@
 -- What demand 3 says of a list, as radon/proofs/Lists has it of a call of the finder, said of any outcome and list that are those of that call: a
 -- camera's outcome and share are. Corners and map are those of the call of the finder. Assumes nothing.
-use mathlib.Core.Path.{_≡_, sym, ap, _∙_}
+use mathlib.Core.Path.{_≡_}
 use mathlib.Core.List.{List}
-use Prim.Native.Nat.{ℕ, _*_, _/_, _≤_, min}
-use lib.Dec.{T}
-use lib.Ieee.{Float, le}
+use Prim.Native.Nat.{ℕ, _*_}
+use lib.Ieee.{Float}
 use lib.ListN.{length, take}
 use Rattle.grid.specs.Each.{each}
 use Rattle.params.specs.declared.answers.Answer.the-variants.{Complete}
@@ -16,7 +15,7 @@ use Rattle.detect.specs.Corners.{numbers, stride}
 use Rattle.detect.proofs.HigherSettings.{raised}
 use Rattle.radon.specs.Finder.{Buffers, outcomeOf, buffersOf}
 use Rattle.radon.proofs.Left.{mapLeft, listLeft}
-use Rattle.radon.proofs.Lists.{cornersLeft, passing, roomIn, writtenBy, Filtered, Opens}
+use Rattle.radon.proofs.Lists.{cornersLeft, passing, writtenBy, Filtered, Opens}
 
 -- "The higher setting's list is exactly those of the lower's corners that pass the higher floor and count, in order, bits unchanged."
 pub record ListFiltered (img : List ℕ) (w h : ℕ) (p : RadonDetectorParams) (t : Float) (m : ℕ) (low high : Buffers)

@@ -2,12 +2,12 @@
 -- Assumes nothing.
 use mathlib.Core.Path.{_≡_, refl, sym, ap, _∙_}
 use mathlib.Core.List.{List, [], _∷_, _++_, append-assoc}
-use Prim.Native.Nat.{ℕ, zero, suc, _+_, _-_, _≤_, _<_, max}
+use Prim.Native.Nat.{ℕ, zero, suc, _+_, _-_, _≤_, max}
 use native.Mathlib.Nat.{suc-add, zero-add, max-eq-left, max-eq-right}
 use native.Mathlib.Decide.{decLe}
 use native.Mathlib.Omega.{arith}
 use lib.ListN.{length, take, drop, take-append-drop}
-use lib.Seq.{length-take-le, take-nil, take-all, take-add, drop-drop, take-at, drop-at, take-append-le, drop-append-le}
+use lib.Seq.{length-take-le, take-nil, take-all, take-add, drop-drop, take-at, drop-at, take-append-le}
 use lib.Seq.{paste, length-paste, drop-paste}
 
 module _ {A : Type 0} where

@@ -3,13 +3,12 @@
 use mathlib.Core.Path.{_≡_, refl, sym, ap, _∙_}
 use mathlib.Core.Bool.{Bool, true, false, cond}
 use mathlib.Core.List.{List}
-use Prim.Native.Nat.{ℕ, zero, suc, _+_, _*_, _/_, _≤_, _<_, min, max}
-use native.Mathlib.Decide.{decLe}
+use Prim.Native.Nat.{ℕ, zero, suc, _*_, _/_, _<_, min, max}
 use native.Mathlib.Omega.{arith}
 use borrow.Author.Tests.{eq-eqb}
 use lib.Dec.{leb}
 use lib.Ieee.{Float}
-use lib.ListN.{length, take, drop}
+use lib.ListN.{length, drop}
 use Rattle.grid.specs.Ways.{pixel}
 use Rattle.grid.specs.Over.{written}
 use Rattle.grid.proofs.Fill.{length-filled}
@@ -18,7 +17,7 @@ use Rattle.params.specs.declared.answers.Answer.the-variants.{Complete, ListFul
 use Rattle.params.specs.declared.answers.Outcome.{Outcome}
 use Rattle.params.specs.declared.settings.RadonDetectorParams.{RadonDetectorParams}
 use Rattle.params.specs.Answers.{numberOf, refused}
-use Rattle.response.specs.Map.{Buffers as MapBuffers, roomOf, accepts, mapped, mappedBy}
+use Rattle.response.specs.Map.{Buffers as MapBuffers, roomOf, mappedBy}
 use Rattle.response.proofs.MapFacts.{SameWritten}
 use Rattle.response.proofs.Beyond.{Stays}
 use Rattle.blur.specs.Blur.{scratched}
@@ -26,7 +25,7 @@ use Rattle.detect.specs.Corners.{stride}
 use Rattle.frame.specs.declared.Reading.{Reading}
 use Rattle.frame.specs.declared.Reading.the-variants.{Frame, Refused}
 use Rattle.radon.specs.Finder.{Buffers, answered, found, outcomeOf, buffersOf}
-use Rattle.radon.proofs.Left.{Accepted, left-is, map-is}
+use Rattle.radon.proofs.Left.{Accepted, left-is}
 use Rattle.radon.proofs.Demands.{refusal-leaves-all, map-beyond-stays, list-beyond-stays, same-answer, same-map}
 use Rattle.radon.proofs.Demands.{list-is-corners, shorter-list}
 use Rattle.frame_runner.specs.FileAnswer.{outcomeFor, buffersFor}
@@ -183,13 +182,14 @@ module _ (img : List ℕ) (w h : ℕ) (p : RadonDetectorParams) where
     accepted-writes z y =
         let is = list-is-corners img w h p b z in
         let opens = shorter-list img w h p b c z y (omega arith) in
-        rw (is .wide, is .high, is .count)
-        (writes-by _ blur (same-map img w h p b c rooms lists z) (map-beyond-stays img w h p b z) (map-beyond-stays img w h p c y),
-        record {
-          same = opens .opening-corners;
-          stays = is .beyond;
-          stays-too = rw (opens .same-corners, lists) (list-beyond-stays img w h p c y);
-        })
+        rw (is .wide, is .high, is .count) (
+          writes-by _ blur (same-map img w h p b c rooms lists z) (map-beyond-stays img w h p b z) (map-beyond-stays img w h p c y),
+          record {
+            same = opens .opening-corners;
+            stays = is .beyond;
+            stays-too = rw (opens .same-corners, lists) (list-beyond-stays img w h p c y);
+          },
+        )
 
     finder-writes : Leaves (buffersOf img w h p b) (buffersOf img w h p c)
     finder-writes = by (or-not (numberOf (answered img w h p b)))

@@ -1,9 +1,9 @@
 -- "10 isn't given here": a file that is not over its limit does not read as one, the finder answers at most 9, and a frame that is not whole is
 -- answered 11 or 13. Assumes nothing.
-use mathlib.Core.Path.{_≡_, refl, sym, ap, _∙_}
+use mathlib.Core.Path.{_≡_, sym, _∙_}
 use mathlib.Core.Bool.{Bool, true, false, not, cond}
 use mathlib.Core.List.{List}
-use Prim.Native.Nat.{ℕ, _+_, _-_, _≤_, _<_, min}
+use Prim.Native.Nat.{ℕ, _+_, _-_, _≤_}
 use native.Mathlib.Omega.{arith}
 use borrow.Author.Tests.{le-ltb, leb-true, eq-eqb, ne-eqb}
 use lib.Dec.{T, ltb, leb, eqb}
@@ -11,7 +11,6 @@ use lib.ListN.{length, take, drop, length-take}
 use Rattle.big_endian.specs.BigEndian.{byteAt, wordAt}
 use Rattle.params.specs.declared.answers.Answer.{Answer}
 use Rattle.params.specs.declared.answers.Answer.the-variants.{FileTooShort, Version, StatedLength, Mode}
-use Rattle.params.specs.declared.answers.Outcome.{Outcome}
 use Rattle.params.specs.declared.settings.PeakFitMode.the-variants.{Parabolic, Gaussian}
 use Rattle.params.specs.declared.settings.NumberedMode.the-variants as number
 use Rattle.params.specs.declared.settings.RadonDetectorParams.{RadonDetectorParams}
