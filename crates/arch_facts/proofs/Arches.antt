@@ -33,11 +33,13 @@ use Rattle.arch.specs.declared.due.Due.{Due}
 use Rattle.arch.specs.declared.due.Due.the-variants.{Refused}
 use Rattle.arch.specs.Arch.{restAt, dueIn, leftBy, noFrame, archRefusal, archOutcome, archBuffers}
 use Rattle.arch.proofs.Frames.{too-short, past-the-end, lies-whole}
+use Rattle.arch.proofs.Judged.{Takes, takes}
 use Rattle.arch.proofs.Cameras.{SameLengths}
 use Rattle.arch_facts.proofs.Single.{Writes, same-lengths, rooms-same, read-refuses, read-told, read-list}
 use Rattle.arch_facts.proofs.Fold.{fileIn, readIn, fileAt, readAt, drop-lent, share-long}
 use Rattle.arch_facts.proofs.Left.{Accepted, size, toldTo, shareLent, shareLeft, workBefore, single, WholeAt, whole-long, file-is, read-is}
-use Rattle.arch_facts.proofs.Left.{writtenTo, workReach, scratchReach, taken, outcome-is, buffers-are, told-due, share-due, work-due, told-beyond}
+use Rattle.arch_facts.proofs.Left.{writtenTo, workReach, scratchReach, LeavesAll, room, outcome-is, buffers-are}
+use Rattle.arch_facts.proofs.Left.{told-due, share-due, work-due, told-beyond}
 use Rattle.arch_facts.proofs.Left.{by-files, told-alike, shares-alike, work-alike, alone, single-long, alone-long}
 use Rattle.arch_facts.proofs.Lists.{ListFiltered, ListOpens, Finds, filtered, opens}
 use Rattle.arch_facts.proofs.Laid.{next-begins, later-ones, Stated, laid}
@@ -45,6 +47,17 @@ use Rattle.arch_facts.proofs.Ten.{same-reading, told-not-ten, due-not-t
 
 -- ---- 1. "The answer, count and share of every frame that lies whole in the slice equal those of a single call with that share as its list, with
 -- the work buffers as the earlier frames left them."
+
+-- "one list in which each frame gets an equal share of whole corners"
+pub equal-shares : (n : ℕ) (b : Buffers) (i : ℕ) → i < n → length (shareLent n b i) ≡ size n b
+equal-shares n b i l = share-long (size n b) n i (b .list) (room n b) l
+
+-- a limit that a file is not over changes nothing of a single call
+pub any-limit : (limit : ℕ) (file : List ℕ) (c : Buffers) → length file ≤ limit
+    → (fileOutcome limit file c ≡ fileOutcome (length file) file c) × (fileBuffers limit file c ≡ fileBuffers (length file) file c)
+unfolding fileOutcome fileBuffers
+any-limit limit file c within =
+    (ap (outcomeFor file c) (same-reading limit file within), ap (buffersFor file c) (same-reading limit file within))
 
 module _ (n : ℕ) (frames : List ℕ) (b : Buffers) (accepted : Accepted n b) where
   module _ (i : ℕ) (goes : i < n) {k : ℕ} {file : List ℕ} (whole : WholeAt frames i k file) where
@@ -56,6 +69,18 @@ module _ (n : ℕ) (frames : List ℕ) (b : Buffers) (accepted : Accepted n b) w
         let c = single n frames b i in (
           told-due n frames b accepted i goes ∙ (λ j. outcomeFor (file-is whole j) c (read-is whole j)),
           share-due n frames b accepted i goes ∙ (λ j. (buffersFor (file-is whole j) c (read-is whole j)) .list),
+        )
+
+    -- under any limit that the file is not over: k is its length
+    pub camera-under-limit : (limit : ℕ) → k ≤ limit
+        → (toldTo n frames b i ≡ fileOutcome limit file (single n frames b i))
+        × (shareLeft n frames b i ≡ (fileBuffers limit file (single n frames b i)) .list)
+    camera-under-limit limit l =
+        let call = camera-is-single-call in
+        let long = whole-long whole in
+        let same = any-limit limit file (single n frames b i) (omega arith) in (
+          call .0 ∙ sym (rw long at (same .0)),
+          call .1 ∙ sym (ap (λ (c : Buffers). c .list) (rw long at (same .1))),
         )
 
     -- "the work buffers as the earlier frames left them": what it leaves of them is what the next one is lent
@@ -101,43 +126,31 @@ module _ (n : ℕ) (frames : List ℕ) (b : Buffers) (accepted : Accepted n b) w
           let none = ap (λ (o : Outcome). numberOf (o .answer)) (told-beyond n frames b accepted i (omega arith) l) in
           omega arith
 
--- a limit that the file is not over changes nothing: so k above, the file's length, serves as the program's limit does
-pub any-limit : (limit : ℕ) (file : List ℕ) (c : Buffers) → length file ≤ limit
-    → (fileOutcome limit file c ≡ fileOutcome (length file) file c) × (fileBuffers limit file c ≡ fileBuffers (length file) file c)
-unfolding fileOutcome fileBuffers
-any-limit limit file c within =
-    (ap (outcomeFor file c) (same-reading limit file within), ap (buffersFor file c) (same-reading limit file within))
-
 -- ---- 2. Frames that are not whole, and how they stand
 
 module _ (n : ℕ) (frames : List ℕ) (b : Buffers) (accepted : Accepted n b) where
-  -- what a camera is told and leaves that changes nothing
-  abbrev pub LeavesAll : ℕ → Answer → Type 0
-  LeavesAll i a =
-      (toldTo n frames b i ≡ refused a)
-      × (shareLeft n frames b i ≡ shareLent n b i)
-      × (workBefore n frames b (suc i) ≡ workBefore n frames b i)
-
   module _ (i : ℕ) (goes : i < n) where
-    pub not-whole : (a : Answer) → dueIn (restAt frames i) ≡ Refused a → LeavesAll i a
+    pub not-whole : (a : Answer) → dueIn (restAt frames i) ≡ Refused a → LeavesAll n frames b i a
     not-whole a e =
         let c = single n frames b i in
-        let rest = restAt frames i in (
-          told-due n frames b accepted i goes ∙ ap (λ (d : Due). outcomeFor (fileIn rest d) c (readIn rest d)) e,
-          share-due n frames b accepted i goes ∙ ap (λ (d : Due). (buffersFor (fileIn rest d) c (readIn rest d)) .list) e,
-          work-due n frames b accepted i goes ∙ ap (λ (d : Due). (buffersFor (fileIn rest d) c (readIn rest d)) .map) e,
-        )
+        let rest = restAt frames i in
+        record {
+          told = told-due n frames b accepted i goes ∙ ap (λ (d : Due). outcomeFor (fileIn rest d) c (readIn rest d)) e;
+          share = share-due n frames b accepted i goes ∙ ap (λ (d : Due). (buffersFor (fileIn rest d) c (readIn rest d)) .list) e;
+          work = work-due n frames b accepted i goes ∙ ap (λ (d : Due). (buffersFor (fileIn rest d) c (readIn rest d)) .map) e;
+        }
 
     -- "with under five bytes left it answers 11"
-    pub under-five-bytes : length (restAt frames i) < 5 → LeavesAll i FileTooShort
+    pub under-five-bytes : length (restAt frames i) < 5 → LeavesAll n frames b i FileTooShort
     under-five-bytes l = not-whole FileTooShort (sym (too-short (restAt frames i) l))
 
     -- "Where that length runs past the end, that frame answers 13, whatever else is wrong with it"
-    pub runs-past-the-end : 5 ≤ length (restAt frames i) → length (restAt frames i) < 5 + wordAt (restAt frames i) 1 → LeavesAll i StatedLength
+    pub runs-past-the-end : let rest = restAt frames i in
+        5 ≤ length rest → length rest < 5 + wordAt rest 1 → LeavesAll n frames b i StatedLength
     runs-past-the-end five l = not-whole StatedLength (sym (past-the-end (restAt frames i) refl five (omega arith)))
 
   -- "either way the later ones answer 11"
-  pub later-ones-too : (i j : ℕ) (a : Answer) → dueIn (restAt frames i) ≡ Refused a → i < j → j < n → LeavesAll j FileTooShort
+  pub later-ones-too : (i j : ℕ) (a : Answer) → dueIn (restAt frames i) ≡ Refused a → i < j → j < n → LeavesAll n frames b j FileTooShort
   later-ones-too i j a e l m = not-whole j m FileTooShort (later-ones frames j i e l)
 
   -- an entry beyond the camera count reads as a camera for which nothing is left
@@ -173,16 +186,14 @@ module _ (files : List (List ℕ)) (stated : all Stated files) where
 -- and no written number."
 
 -- "Refusals: 21, a camera count not 2 to 8 or a list too short for one corner a camera, before any frame is read: all counts 0, no buffer changed."
+pub accepted-where : (n : ℕ) (b : Buffers) → Takes n (length (b .list)) → Accepted n b
+unfolding archRefusal
+accepted-where n b t = rw (le-ltb n 2 (t .two), le-ltb 8 n (t .eight), le-ltb (length (b .list) / stride) n (t .corner))
+
+pub accepted-only : (n : ℕ) (b : Buffers) → Accepted n b → Takes n (length (b .list))
+accepted-only n b z = takes n (length (b .list)) z .1
+
 module _ (n : ℕ) (frames : List ℕ) (b : Buffers) where
-  pub accepted-where : 2 ≤ n → n ≤ 8 → n ≤ length (b .list) / stride → Accepted n b
-  unfolding archRefusal
-  accepted-where u v l = rw (le-ltb n 2 u, le-ltb 8 n v, le-ltb (length (b .list) / stride) n l)
-
-  pub accepted-only : Accepted n b → (2 ≤ n) × (n ≤ 8) × (n ≤ length (b .list) / stride)
-  accepted-only z =
-      let t = taken n frames b z in
-      (t .least, t .most, t .corner)
-
   pub arch-refusal-leaves-all : (Accepted n b → ⊥)
       → _≡_ {A = ArchOutcome} (archOutcome n frames b) (record { answer = Cameras; cameras = replicate 8 (refused Cameras) })
       × (archBuffers n frames b ≡ b)
@@ -195,14 +206,15 @@ module _ (n : ℕ) (frames : List ℕ) (b : Buffers) where
 
   -- "A refused frame stops nobody": a camera with an answer above 1 is told zeros, and leaves all as it was
   pub refused-camera-leaves-all : (z : Accepted n b) (i : ℕ) → i < n → 1 < numberOf ((toldTo n frames b i) .answer)
-      → LeavesAll n frames b z i ((toldTo n frames b i) .answer)
+      → LeavesAll n frames b i ((toldTo n frames b i) .answer)
   refused-camera-leaves-all z i l above =
       let t = told-due n frames b z i l in
-      let f = read-refuses (fileAt frames i) (readAt frames i) (single n frames b i) (rw t at above) in (
-        rw t (f .0),
-        share-due n frames b z i l ∙ ap (λ (c : Buffers). c .list) (f .1),
-        work-due n frames b z i l ∙ ap (λ (c : Buffers). c .map) (f .1),
-      )
+      let f = read-refuses (fileAt frames i) (readAt frames i) (single n frames b i) (rw t at above) in
+      record {
+        told = rw t (f .0);
+        share = share-due n frames b z i l ∙ ap (λ (c : Buffers). c .list) (f .1);
+        work = work-due n frames b z i l ∙ ap (λ (c : Buffers). c .map) (f .1);
+      }
 
   -- "Entries beyond stay": the rest of a share, and "the remainder unused" behind the last one
   pub share-beyond-stays : Accepted n b → (i : ℕ) → i < n
@@ -212,7 +224,7 @@ module _ (n : ℕ) (frames : List ℕ) (b : Buffers) where
   pub remainder-stays : Accepted n b → drop (n * size n b) ((archBuffers n frames b) .list) ≡ drop (n * size n b) (b .list)
   remainder-stays z =
       rw (buffers-are n frames b z)
-      (drop-lent frames (size n b) b n (taken n frames b z .room) n n (omega arith) (omega arith))
+      (drop-lent frames (size n b) b n (room n b) n n (omega arith) (omega arith))
 
 -- Two calls over buffers with the same lengths, whatever these held before
 module _ (n : ℕ) (frames : List ℕ) (b c : Buffers) (same : SameLengths b c) where
@@ -282,11 +294,8 @@ module _ {n : ℕ} {frames : List ℕ} {b : Buffers} {i : ℕ} {img : List ℕ} 
         left = call .1 ∙ (λ j. (buffersOf (r .pixels-are j) (r .wide j) (r .high j) (r .settings j) c) .list);
       }
 
-  share-is-long : length (shareLent n b i) ≡ size n b
-  share-is-long = share-long (size n b) n i (b .list) (taken n frames b (r .accepted) .room) (r .goes)
-
   room-is : roomIn (single n frames b i) ≡ size n b / stride
-  room-is = ap (λ (m : ℕ). m / stride) share-is-long
+  room-is = ap (λ (m : ℕ). m / stride) (equal-shares n b i (r .goes))
 
 -- camera i of one call and camera j of another, or of the same one
 module _ (n : ℕ) (frames : List ℕ) (b : Buffers) (i : ℕ) (m : ℕ) (others : List ℕ) (c : Buffers) (j : ℕ) (w h : ℕ) (p : RadonDetectorParams) where
@@ -310,7 +319,7 @@ module _ (n : ℕ) (frames : List ℕ) (b : Buffers) (i : ℕ) (m : ℕ) (others
   shorter-list-by-frame img short long l =
       opens (finds short) (finds long)
       (shorter-list img w h p (single n frames b i) (single m others c j) (short .takes) (long .takes)
-      (omega (arith, share-is-long short, share-is-long long)))
+      (omega (arith, equal-shares n b i (short .goes), equal-shares m c j (long .goes))))
 
   -- "A frame raised evenly by some grey steps, no pixel past 255, has the same map, bit for bit": the map of the like single calls
   pub raised-frame-by-frame : (img up : List ℕ) (step : ℕ) → Reads n frames b i img w h p → Reads m others c j up w h p

@@ -21,7 +21,7 @@ use Rattle.arch.specs.Arch.{dueIn, restAt, cameraOutcome, cameraBuffers, shareO
 use Rattle.arch.proofs.Cameras.{SameLengths}
 use Rattle.arch.proofs.Shares.{share-in}
 use Rattle.arch_facts.proofs.Parts.{put-long, part-put, drop-put, part-before-put, Wrote}
-use Rattle.arch_facts.proofs.Single.{Writes, writes-none, writes-then, area, blurredArea, listed, same-lengths}
+use Rattle.arch_facts.proofs.Single.{Writes, writes-none, writes-then, area, blurredArea, listed, same-lengths, with-lists}
 use Rattle.arch_facts.proofs.Single.{read-long, read-told, read-writes}
 
 -- ---- a camera is a single call: the file that is due and how it reads. One that is not whole reads as a refusal
@@ -67,16 +67,7 @@ lengths-over s u v = record {
 }
 
 lent-lengths : (size i : ℕ) {b c : Buffers} → SameLengths b c → SameLengths (lentTo size i b) (lentTo size i c)
-lent-lengths size i s = record {
-  working = s .working;
-  row = s .row;
-  col = s .col;
-  falling = s .falling;
-  rising = s .rising;
-  response = s .response;
-  scratch = s .scratch;
-  list = simp (length-take, length-drop) (rw (s .list));
-}
+lent-lengths size i s = with-lists s _ _ (simp (length-take, length-drop) (rw (s .list)))
 
 pub share-long : (size n i : ℕ) (l : List Float) → n * size ≤ length l → i < n → length (shareOf size i l) ≡ size
 share-long size n i l room goes =
@@ -96,6 +87,13 @@ module _ (frames : List ℕ) (size : ℕ) (b : Buffers) where
   abbrev after : ℕ → Buffers
   after i = buffersFor (fileAt frames i) (lentAt i) (readAt frames i)
 
+  -- the list among them, and what the like single call is lent
+  abbrev listNow : ℕ → List Float
+  listNow i = (now i) .list
+
+  abbrev singleAt : ℕ → Buffers
+  singleAt i = record { map = (now i) .map; list = shareOf size i (b .list) }
+
   pub told-is : (i : ℕ) → told frames size b i ≡ outcomeFor (fileAt frames i) (lentAt i) (readAt frames i)
   unfolding told
   told-is i = camera-told (restAt frames i) (dueIn (restAt frames i)) (lentAt i)
@@ -107,9 +105,6 @@ module _ (frames : List ℕ) (size : ℕ) (b : Buffers) where
   -- ---- n shares of its list
 
   module _ (n : ℕ) (room : n * size ≤ length (b .list)) where
-    abbrev listNow : ℕ → List Float
-    listNow i = (now i) .list
-
     list-next : (i : ℕ) → listNow (suc i) ≡ (backFrom size i (now i) (after i)) .list
     list-next i = ap (λ (c : Buffers). c .list) (next-is i)
 
@@ -182,9 +177,6 @@ module _ (frames : List ℕ) (size : ℕ) (b : Buffers) where
             rw e (share-itself j m (as-long j m))
 
     -- ---- camera i by the share that was lent at the call
-
-    abbrev pub singleAt : ℕ → Buffers
-    singleAt i = record { map = (now i) .map; list = shareOf size i (b .list) }
 
     lent-is : (i : ℕ) → i < n → lentAt i ≡ singleAt i
     lent-is i l = λ k. record { map = (now i) .map; list = take size (drop-lent i i (omega arith) (omega arith) k) }

@@ -1,9 +1,9 @@
 -- What a call for an arch tells and leaves, by name, and the steps to it from the definitions. Assumes nothing.
 use mathlib.Core.Path.{_≡_, refl, sym, ap, _∙_}
 use mathlib.Core.List.{List}
-use Prim.Native.Nat.{ℕ, suc, _*_, _/_, _≤_, _<_, max}
+use Prim.Native.Nat.{ℕ, suc, _*_, _≤_, _<_, max}
 use native.Mathlib.Omega.{arith}
-use borrow.Author.Tests.{eq-eqb, ltb-false}
+use borrow.Author.Tests.{eq-eqb}
 use lib.Ieee.{Float}
 use lib.ListN.{length, getD, take, replicate, getD-replicate}
 use lib.Seq.{length-take-le}
@@ -11,10 +11,10 @@ use Rattle.grid.specs.Fill.{filled}
 use Rattle.grid.specs.Fold.{fold}
 use Rattle.grid.proofs.Fold.{fold-ext}
 use Rattle.grid.proofs.Fill.{getD-filled, getD-beyond, filled-ext}
+use Rattle.params.specs.declared.answers.Answer.{Answer}
 use Rattle.params.specs.declared.answers.Answer.the-variants.{Complete}
 use Rattle.params.specs.declared.answers.Outcome.{Outcome}
-use Rattle.params.specs.Answers.{numberOf}
-use Rattle.params.proofs.Accepted.{past}
+use Rattle.params.specs.Answers.{numberOf, refused}
 use Rattle.response.specs.Map.{Buffers as MapBuffers}
 use Rattle.detect.specs.Corners.{stride}
 use Rattle.frame.specs.FrameFile.{readOf}
@@ -24,10 +24,11 @@ use Rattle.arch.specs.declared.ArchOutcome.{ArchOutcome}
 use Rattle.arch.specs.declared.due.Due.the-variants.{Whole}
 use Rattle.arch.specs.Arch.{dueIn, restAt, shareSize, shareOf, leftBy, told, archRefusal, noFrame, archOutcome, archBuffers}
 use Rattle.arch.proofs.Frames.{whole-in}
+use Rattle.arch.proofs.Judged.{takes}
 use Rattle.arch.proofs.Cameras.{SameLengths}
 use Rattle.arch.proofs.Shares.{shares-in}
 use Rattle.arch_facts.proofs.Parts.{Wrote}
-use Rattle.arch_facts.proofs.Single.{Writes, area, blurredArea, listed}
+use Rattle.arch_facts.proofs.Single.{Writes, area, blurredArea, listed, with-lists}
 use Rattle.arch_facts.proofs.Fold.{fileIn, readIn, fileAt, readAt, long, told-single, share-single, map-single}
 use Rattle.arch_facts.proofs.Fold.{told-by-files, left-by-files, told-same, share-writes, reach, blurredReach, work-writes}
 
@@ -89,28 +90,19 @@ module _ {frames file : List ℕ} {i k : ℕ} (whole : WholeAt frames i k file) 
   pub read-is : readAt frames i ≡ readOf k file
   read-is = ap (readIn (restAt frames i)) (whole .due) ∙ ap (readOf k) (whole .is)
 
+-- camera i is refused with the answer a, and leaves its share and the work buffers as they were
+pub record LeavesAll (n : ℕ) (frames : List ℕ) (b : Buffers) (i : ℕ) (a : Answer) : Type 0 where
+  pub told : toldTo n frames b i ≡ refused a
+  pub share : shareLeft n frames b i ≡ shareLent n b i
+  pub work : workBefore n frames b (suc i) ≡ workBefore n frames b i
+
 -- ---- a call that is not answered 21
 
-pub record Taken (n : ℕ) (b : Buffers) : Type 0 where
-  pub least : 2 ≤ n
-  pub most : n ≤ 8
-  pub corner : n ≤ length (b .list) / stride
-  pub room : n * size n b ≤ length (b .list)
+-- the shares lie in the list
+pub room : (n : ℕ) (b : Buffers) → n * size n b ≤ length (b .list)
+room n b = shares-in stride n (length (b .list))
 
 module _ (n : ℕ) (frames : List ℕ) (b : Buffers) (accepted : Accepted n b) where
-  pub taken : Taken n b
-  unfolding archRefusal
-  taken =
-      let few = past _ _ _ refl accepted in
-      let many = past _ _ _ refl (few .1) in
-      let short = past _ _ _ refl (many .1) in
-      record {
-        least = ltb-false _ _ (few .0);
-        most = ltb-false _ _ (many .0);
-        corner = ltb-false _ _ (short .0);
-        room = shares-in stride n (length (b .list));
-      }
-
   pub outcome-is : _≡_ {A = ArchOutcome} (archOutcome n frames b) (record {
     answer = Complete;
     cameras = filled n (told frames (size n b) b) (replicate 8 noFrame);
@@ -126,32 +118,21 @@ module _ (n : ℕ) (frames : List ℕ) (b : Buffers) (accepted : Accepted n b) w
     pub told-is : toldTo n frames b i ≡ told frames (size n b) b i
     told-is =
         ap (λ (o : ArchOutcome). getD (o .cameras) i noFrame) outcome-is
-        ∙ getD-filled n (told frames (size n b) b) (replicate 8 noFrame) i noFrame goes (omega (arith, taken .most))
+        ∙ getD-filled n (told frames (size n b) b) (replicate 8 noFrame) i noFrame goes (omega (arith, takes n (length (b .list)) accepted .1))
 
     -- by the frame that is due
     pub told-due : toldTo n frames b i ≡ outcomeFor (fileAt frames i) (single n frames b i) (readAt frames i)
-    told-due = told-is ∙ told-single frames (size n b) b n (taken .room) i goes
+    told-due = told-is ∙ told-single frames (size n b) b n (room n b) i goes
 
     pub share-due : shareLeft n frames b i ≡ (buffersFor (fileAt frames i) (single n frames b i) (readAt frames i)) .list
-    share-due = ap (λ (c : Buffers). shareOf (size n b) i (c .list)) buffers-are ∙ share-single frames (size n b) b n (taken .room) i goes
+    share-due = ap (λ (c : Buffers). shareOf (size n b) i (c .list)) buffers-are ∙ share-single frames (size n b) b n (room n b) i goes
 
     pub work-due : workBefore n frames b (suc i) ≡ (buffersFor (fileAt frames i) (single n frames b i) (readAt frames i)) .map
-    work-due = map-single frames (size n b) b n (taken .room) i goes
+    work-due = map-single frames (size n b) b n (room n b) i goes
 
     -- what it is lent is as long as what was lent to all
     pub single-long : SameLengths (alone n b i) (single n frames b i)
-    single-long =
-        let long = long frames (size n b) b n (taken .room) i (omega arith) in
-        record {
-          working = long .working;
-          row = long .row;
-          col = long .col;
-          falling = long .falling;
-          rising = long .rising;
-          response = long .response;
-          scratch = long .scratch;
-          list = refl;
-        }
+    single-long = with-lists (long frames (size n b) b n (room n b) i (omega arith)) _ _ refl
 
   -- an entry beyond the camera count
   pub told-beyond : (i : ℕ) → n ≤ i → i < 8 → toldTo n frames b i ≡ noFrame
@@ -179,13 +160,10 @@ module _ (n : ℕ) (frames : List ℕ) (b c : Buffers) where
   pub told-alike : SameLengths b c → archOutcome n frames b ≡ archOutcome n frames c
   unfolding archOutcome
   told-alike same =
-      let tells = told-same frames s n b c (shares-in stride n (length (b .list))) same in
+      let tells = told-same frames s n b c (room n b) same in
       rw (same .list, filled-ext n (told frames s b) (told frames s c) (replicate 8 noFrame) tells)
 
   module _ (accepted : Accepted n b) (same : SameLengths b c) where
-    abbrev room : n * s ≤ length (b .list)
-    room = taken n frames b accepted .room
-
     too : Accepted n c
     too = rw (same .list) accepted
 
@@ -196,7 +174,7 @@ module _ (n : ℕ) (frames : List ℕ) (b c : Buffers) where
         → Wrote (writtenTo n frames b i) (shareLent n b i) (shareLent n c i) (shareLeft n frames b i) (shareLeft n frames c i)
     shares-alike i l =
         rw (told-is n frames b accepted i l, buffers-are n frames b accepted, left-too, same .list)
-        (share-writes frames s n b c room same i l)
+        (share-writes frames s n b c (room n b) same i l)
 
     work-reach : workReach n frames b ≡ reach frames s b n
     work-reach = fold-ext max 0 _ _ n (λ i l. ap area (told-is n frames b accepted i l))
@@ -208,18 +186,9 @@ module _ (n : ℕ) (frames : List ℕ) (b c : Buffers) where
         Writes (workReach n frames b) (scratchReach n frames b) (b .map) (c .map) ((archBuffers n frames b) .map) ((archBuffers n frames c) .map)
     work-alike =
         rw (buffers-are n frames b accepted, left-too, work-reach, scratch-reach)
-        (work-writes frames s n b c room same n (omega arith))
+        (work-writes frames s n b c (room n b) same n (omega arith))
 
 -- the same share of two sets of buffers that are as long
 pub alone-long : (n : ℕ) (b c : Buffers) → SameLengths b c → (i : ℕ) → shareLent n b i ≡ shareLent n c i
     → SameLengths (alone n b i) (alone n c i)
-alone-long n b c same i lent = record {
-  working = same .working;
-  row = same .row;
-  col = same .col;
-  falling = same .falling;
-  rising = same .rising;
-  response = same .response;
-  scratch = same .scratch;
-  list = sym (ap length lent);
-}
+alone-long n b c same i lent = with-lists same _ _ (sym (ap length lent))

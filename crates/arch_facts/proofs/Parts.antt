@@ -30,30 +30,31 @@ module _ {A : Type 0} where
 
   -- ---- l with c in place of the part of `size` entries from `at` on
 
-  module _ (at size : ℕ) (c l : List A) (long : length c ≡ size) (fits : at + size ≤ length l) where
-    abbrev pub put : List A
-    put = take at l ++ (c ++ drop size (drop at l))
+  abbrev putIn : ℕ → ℕ → List A → List A → List A
+  putIn at size c l = take at l ++ (c ++ drop size (drop at l))
 
-    pasted : put ≡ paste l at c size
+  module _ (at size : ℕ) (c l : List A) (long : length c ≡ size) (fits : at + size ≤ length l) where
+    pasted : putIn at size c l ≡ paste l at c size
     pasted =
         rw (drop-drop size at l, take-all size c (omega arith))
         (sym (append-assoc (take at l) c (drop (at + size) l)))
 
-    pub put-long : length put ≡ length l
+    pub put-long : length (putIn at size c l) ≡ length l
     put-long = ap length pasted ∙ length-paste l at c size fits (omega arith)
 
     -- the part itself
-    pub part-put : take size (drop at put) ≡ c
+    pub part-put : take size (drop at (putIn at size c l)) ≡ c
     part-put =
         rw (drop-at (take at l) (c ++ drop size (drop at l)) at (length-take-le at l (omega arith)))
         (take-at c (drop size (drop at l)) size long)
 
     -- what stands behind it
-    pub drop-put : (from : ℕ) → at + size ≤ from → drop from put ≡ drop from l
-    drop-put from h = drop-further (at + size) from put l h (rw pasted (drop-paste l at c size (omega arith) (omega arith)))
+    pub drop-put : (from : ℕ) → at + size ≤ from → drop from (putIn at size c l) ≡ drop from l
+    drop-put from h =
+        drop-further (at + size) from (putIn at size c l) l h (rw pasted (drop-paste l at c size (omega arith) (omega arith)))
 
     -- and a part before it
-    pub part-before-put : (from n : ℕ) → from + n ≤ at → take n (drop from put) ≡ take n (drop from l)
+    pub part-before-put : (from n : ℕ) → from + n ≤ at → take n (drop from (putIn at size c l)) ≡ take n (drop from l)
     part-before-put from n h =
         let inside : from + n ≤ length (take at l) = omega (arith, length-take-le at l (omega arith)) in
         part-before from n (take at l) (c ++ drop size (drop at l)) inside

@@ -106,6 +106,20 @@ same-lengths b = record {
   list = refl;
 }
 
+-- with other lists
+pub with-lists : {b c : Buffers} → SameLengths b c → (x y : List Float) → length y ≡ length x
+    → SameLengths (record { map = b .map; list = x }) (record { map = c .map; list = y })
+with-lists s x y e = record {
+  working = s .working;
+  row = s .row;
+  col = s .col;
+  falling = s .falling;
+  rising = s .rising;
+  response = s .response;
+  scratch = s .scratch;
+  list = e;
+}
+
 pub rooms-same : {b c : Buffers} → SameLengths b c → roomOf (b .map) ≡ roomOf (c .map)
 rooms-same s = cc
 
