@@ -21,7 +21,8 @@ use Rattle.arch.specs.Arch.{dueIn, restAt, cameraOutcome, cameraBuffers, shareO
 use Rattle.arch.proofs.Cameras.{SameLengths}
 use Rattle.arch.proofs.Shares.{share-in}
 use Rattle.arch_facts.proofs.Parts.{put-long, part-put, drop-put, part-before-put, Wrote}
-use Rattle.arch_facts.proofs.Single.{Writes, writes-none, writes-then, area, blurredArea, listed, same-lengths, with-lists}
+use Rattle.arch_facts.proofs.Work.{Writes, writes-none, writes-then, same-lengths, with-lists, lengths-over}
+use Rattle.arch_facts.proofs.Single.{area, blurredArea, listed}
 use Rattle.arch_facts.proofs.Single.{read-long, read-told, read-writes}
 
 -- ---- a camera is a single call: the file that is due and how it reads. One that is not whole reads as a refusal
@@ -52,19 +53,6 @@ abbrev pub readAt : List ℕ → ℕ → Reading
 readAt frames i = readIn (restAt frames i) (dueIn (restAt frames i))
 
 -- ---- lengths
-
--- b and c are as long, and d and e as those
-lengths-over : {b c d e : Buffers} → SameLengths b c → SameLengths b d → SameLengths c e → SameLengths d e
-lengths-over s u v = record {
-  working = cc;
-  row = cc;
-  col = cc;
-  falling = cc;
-  rising = cc;
-  response = cc;
-  scratch = cc;
-  list = cc;
-}
 
 lent-lengths : (size i : ℕ) {b c : Buffers} → SameLengths b c → SameLengths (lentTo size i b) (lentTo size i c)
 lent-lengths size i s = with-lists s _ _ (simp (length-take, length-drop) (rw (s .list)))

@@ -28,7 +28,8 @@ use Rattle.arch.proofs.Judged.{takes}
 use Rattle.arch.proofs.Cameras.{SameLengths}
 use Rattle.arch.proofs.Shares.{shares-in}
 use Rattle.arch_facts.proofs.Parts.{Wrote}
-use Rattle.arch_facts.proofs.Single.{Writes, area, blurredArea, listed, with-lists}
+use Rattle.arch_facts.proofs.Work.{Writes, with-lists}
+use Rattle.arch_facts.proofs.Single.{area, blurredArea, listed}
 use Rattle.arch_facts.proofs.Fold.{fileIn, readIn, fileAt, readAt, long, told-single, share-single, map-single}
 use Rattle.arch_facts.proofs.Fold.{told-by-files, left-by-files, told-same, share-writes, reach, blurredReach, work-writes}
 

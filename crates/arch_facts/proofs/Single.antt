@@ -3,7 +3,8 @@
 use mathlib.Core.Path.{_≡_, refl, sym, ap, _∙_}
 use mathlib.Core.Bool.{Bool, true, false, cond}
 use mathlib.Core.List.{List}
-use Prim.Native.Nat.{ℕ, zero, suc, _*_, _/_, _<_, min, max}
+use Prim.Native.Nat.{ℕ, zero, suc, _*_, _/_, _<_, min}
+use native.Mathlib.Decide.{ℕ-discrete}
 use native.Mathlib.Omega.{arith}
 use borrow.Author.Tests.{eq-eqb}
 use lib.Dec.{leb}
@@ -17,9 +18,7 @@ use Rattle.params.specs.declared.answers.Answer.the-variants.{Complete, ListFul
 use Rattle.params.specs.declared.answers.Outcome.{Outcome}
 use Rattle.params.specs.declared.settings.RadonDetectorParams.{RadonDetectorParams}
 use Rattle.params.specs.Answers.{numberOf, refused}
-use Rattle.response.specs.Map.{Buffers as MapBuffers, roomOf, mappedBy}
-use Rattle.response.proofs.MapFacts.{SameWritten}
-use Rattle.response.proofs.Beyond.{Stays}
+use Rattle.response.specs.Map.{roomOf, mappedBy}
 use Rattle.blur.specs.Blur.{scratched}
 use Rattle.detect.specs.Corners.{stride}
 use Rattle.frame.specs.declared.Reading.{Reading}
@@ -30,109 +29,15 @@ use Rattle.radon.proofs.Demands.{refusal-leaves-all, map-beyond-stays, list-bey
 use Rattle.radon.proofs.Demands.{list-is-corners, shorter-list}
 use Rattle.frame_runner.specs.FileAnswer.{outcomeFor, buffersFor}
 use Rattle.arch.proofs.Cameras.{SameLengths}
-use Rattle.arch_facts.proofs.Parts.{Wrote, wrote-none, wrote-then}
+use Rattle.arch_facts.proofs.Parts.{Wrote, wrote-none}
+use Rattle.arch_facts.proofs.Work.{Writes, writes-none, inScratch, none-in-scratch, writes-by, same-lengths, rooms-same}
 
--- ---- the seven work buffers: the first n entries, and the first s of the scratch
-
-pub record Writes (n s : ℕ) (b c p q : MapBuffers) : Type 0 where
-  pub working : Wrote n (b .working) (c .working) (p .working) (q .working)
-  pub row : Wrote n (b .row) (c .row) (p .row) (q .row)
-  pub col : Wrote n (b .col) (c .col) (p .col) (q .col)
-  pub falling : Wrote n (b .falling) (c .falling) (p .falling) (q .falling)
-  pub rising : Wrote n (b .rising) (c .rising) (p .rising) (q .rising)
-  pub response : Wrote n (b .response) (c .response) (p .response) (q .response)
-  pub scratch : Wrote s (b .scratch) (c .scratch) (p .scratch) (q .scratch)
-
-pub writes-none : {b c : MapBuffers} → Writes 0 0 b c b c
-writes-none = record {
-  working = wrote-none 0 refl;
-  row = wrote-none 0 refl;
-  col = wrote-none 0 refl;
-  falling = wrote-none 0 refl;
-  rising = wrote-none 0 refl;
-  response = wrote-none 0 refl;
-  scratch = wrote-none 0 refl;
-}
-
-pub writes-then : (m s n t : ℕ) {b c d e p q : MapBuffers} → Writes m s b c d e → Writes n t d e p q → Writes (max m n) (max s t) b c p q
-writes-then m s n t f g = record {
-  working = wrote-then m n (f .working) (g .working);
-  row = wrote-then m n (f .row) (g .row);
-  col = wrote-then m n (f .col) (g .col);
-  falling = wrote-then m n (f .falling) (g .falling);
-  rising = wrote-then m n (f .rising) (g .rising);
-  response = wrote-then m n (f .response) (g .response);
-  scratch = wrote-then s t (f .scratch) (g .scratch);
-}
-
--- of n pixels, those that stand in the scratch: none without a blur
-abbrev pub inScratch : ℕ → ℕ → ℕ
-inScratch zero n = 0
-inScratch (suc r) n = n
-
-none-in-scratch : (r : ℕ) → inScratch r 0 ≡ 0
-none-in-scratch zero = refl
-none-in-scratch (suc r) = refl
-
-module _ (n : ℕ) {b c p q : MapBuffers} where
-  scratch-by : (blur : ℕ) → SameWritten n blur p q → Stays n blur b p → Stays n blur c q
-      → Wrote (inScratch blur n) (b .scratch) (c .scratch) (p .scratch) (q .scratch)
-  scratch-by zero e u v = record { same = refl; stays = u .unused refl; stays-too = v .unused refl }
-  scratch-by (suc r) e u v = record { same = e .scratch (omega arith); stays = u .scratch; stays-too = v .scratch }
-
-  -- as the map's own theorems have it
-  writes-by : (blur : ℕ) → SameWritten n blur p q → Stays n blur b p → Stays n blur c q → Writes n (inScratch blur n) b c p q
-  writes-by blur e u v = record {
-    working = record { same = e .working; stays = u .working; stays-too = v .working };
-    row = record { same = e .row; stays = u .row; stays-too = v .row };
-    col = record { same = e .col; stays = u .col; stays-too = v .col };
-    falling = record { same = e .falling; stays = u .falling; stays-too = v .falling };
-    rising = record { same = e .rising; stays = u .rising; stays-too = v .rising };
-    response = record { same = e .response; stays = u .response; stays-too = v .response };
-    scratch = scratch-by blur e u v;
-  }
-
--- ---- lengths
-
-pub same-lengths : (b : Buffers) → SameLengths b b
-same-lengths b = record {
-  working = refl;
-  row = refl;
-  col = refl;
-  falling = refl;
-  rising = refl;
-  response = refl;
-  scratch = refl;
-  list = refl;
-}
-
--- with other lists
-pub with-lists : {b c : Buffers} → SameLengths b c → (x y : List Float) → length y ≡ length x
-    → SameLengths (record { map = b .map; list = x }) (record { map = c .map; list = y })
-with-lists s x y e = record {
-  working = s .working;
-  row = s .row;
-  col = s .col;
-  falling = s .falling;
-  rising = s .rising;
-  response = s .response;
-  scratch = s .scratch;
-  list = e;
-}
-
-pub rooms-same : {b c : Buffers} → SameLengths b c → roomOf (b .map) ≡ roomOf (c .map)
-rooms-same s = cc
+-- ---- the finder's
 
 scratch-long : (g : ℕ → ℕ → Float) (w h r : ℕ) (old : List Float) → length (scratched g w h r old) ≡ length old
 unfolding scratched
 scratch-long g w h zero old = refl
 scratch-long g w h (suc r) old = length-filled (w * h) _ old
-
-pub or-not : (n : ℕ) → Dec (n ≡ 0)
-or-not zero = yes refl
-or-not (suc n) = no (λ e. omega arith)
-
--- ---- the finder's
 
 -- W·H
 abbrev pub area : Outcome → ℕ
@@ -167,7 +72,7 @@ module _ (img : List ℕ) (w h : ℕ) (p : RadonDetectorParams) where
   })
 
   finder-long : (b : Buffers) → SameLengths b (buffersOf img w h p b)
-  finder-long b = by (or-not (numberOf (answered img w h p b)))
+  finder-long b = by (ℕ-discrete (numberOf (answered img w h p b)) 0)
     where
       by : Dec (Accepted img w h p b) → SameLengths b (buffersOf img w h p b)
       by (yes z) = accepted-long b z
@@ -206,7 +111,7 @@ module _ (img : List ℕ) (w h : ℕ) (p : RadonDetectorParams) where
         )
 
     finder-writes : Leaves (buffersOf img w h p b) (buffersOf img w h p c)
-    finder-writes = by (or-not (numberOf (answered img w h p b)))
+    finder-writes = by (ℕ-discrete (numberOf (answered img w h p b)) 0)
       where
         by : Dec (Accepted img w h p b) → Leaves (buffersOf img w h p b) (buffersOf img w h p c)
         by (yes z) = accepted-writes z (rw rooms at z)
@@ -218,7 +123,7 @@ module _ (img : List ℕ) (w h : ℕ) (p : RadonDetectorParams) where
   -- over the same list it leaves the same list, whatever the work buffers hold
   finder-list : (b c : Buffers) → roomOf (b .map) ≡ roomOf (c .map) → b .list ≡ c .list
       → (buffersOf img w h p b) .list ≡ (buffersOf img w h p c) .list
-  finder-list b c rooms e = by (or-not (numberOf (answered img w h p b)))
+  finder-list b c rooms e = by (ℕ-discrete (numberOf (answered img w h p b)) 0)
     where
       by : Dec (Accepted img w h p b) → (buffersOf img w h p b) .list ≡ (buffersOf img w h p c) .list
       by (yes z) =
@@ -234,7 +139,7 @@ module _ (img : List ℕ) (w h : ℕ) (p : RadonDetectorParams) where
   finder-refuses : (b : Buffers) → 1 < numberOf ((outcomeOf img w h p b) .answer)
       → (outcomeOf img w h p b ≡ refused ((outcomeOf img w h p b) .answer)) × (buffersOf img w h p b ≡ b)
   unfolding outcomeOf
-  finder-refuses b l = by (or-not (numberOf (answered img w h p b)))
+  finder-refuses b l = by (ℕ-discrete (numberOf (answered img w h p b)) 0)
     where
       by : Dec (Accepted img w h p b) → (outcomeOf img w h p b ≡ refused ((outcomeOf img w h p b) .answer)) × (buffersOf img w h p b ≡ b)
       by (yes z) =

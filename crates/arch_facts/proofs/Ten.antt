@@ -4,6 +4,7 @@ use mathlib.Core.Path.{_≡_, sym, _∙_}
 use mathlib.Core.Bool.{Bool, true, false, not, cond}
 use mathlib.Core.List.{List}
 use Prim.Native.Nat.{ℕ, _+_, _-_, _≤_}
+use native.Mathlib.Decide.{ℕ-discrete}
 use native.Mathlib.Omega.{arith}
 use borrow.Author.Tests.{le-ltb, leb-true, eq-eqb, ne-eqb}
 use lib.Dec.{T, ltb, leb, eqb}
@@ -25,7 +26,6 @@ use Rattle.radon.proofs.Left.{is-true}
 use Rattle.frame_runner.specs.FileAnswer.{outcomeFor}
 use Rattle.arch.specs.declared.due.Due.the-variants.{Whole, Refused}
 use Rattle.arch.specs.Arch.{dueIn}
-use Rattle.arch_facts.proofs.Single.{or-not}
 use Rattle.arch_facts.proofs.Fold.{readIn}
 
 -- ---- the finder's answers end at 9
@@ -50,7 +50,7 @@ refusal-low w h image p room = search (low, low-stage, leaf, tt) depth 12
 
 finder-low : (img : List ℕ) (w h : ℕ) (p : RadonDetectorParams) (b : Buffers) → Low ((outcomeOf img w h p b) .answer)
 unfolding outcomeOf
-finder-low img w h p b = by (or-not (numberOf (answered img w h p b)))
+finder-low img w h p b = by (ℕ-discrete (numberOf (answered img w h p b)) 0)
   where
     by : Dec (numberOf (answered img w h p b) ≡ 0) → Low ((outcomeOf img w h p b) .answer)
     by (yes z) = rw (eq-eqb (numberOf (answered img w h p b)) 0 z) (search (low, leaf, tt))
