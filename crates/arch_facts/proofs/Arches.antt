@@ -268,6 +268,15 @@ others-change-nothing n frames others b c z same i l lent {k} {file} whole again
       one .1 ∙ read-list file (readOf k file) _ _ (rooms-same as-long) lent ∙ sym (two .1),
     )
 
+-- for files laid end to end: of two slices with the same file i, whatever the other files are
+pub other-files-change-nothing : (n : ℕ) (files others : List (List ℕ)) (more rest : List ℕ) (b : Buffers) → Accepted n b
+    → all Stated files → all Stated others → (i : ℕ) → i < n → i < length files → i < length others → getD files i [] ≡ getD others i []
+    → (toldTo n (flatten files ++ more) b i ≡ toldTo n (flatten others ++ rest) b i)
+    × (shareLeft n (flatten files ++ more) b i ≡ shareLeft n (flatten others ++ rest) b i)
+other-files-change-nothing n files others more rest b z stated stated-too i l u v same =
+    others-change-nothing n (flatten files ++ more) (flatten others ++ rest) b b z (same-lengths b) i l refl
+    (laid-end-to-end files stated more i u) (rw same (laid-end-to-end others stated-too rest i v))
+
 -- ---- 5. "Where 21 isn't given, demand 3 holds frame by frame, its map clause for the map of the like single call."
 
 -- camera i of a call has a whole frame that is read as the pixels img, w wide and h high, with the settings p; and the finder takes it
