@@ -6,9 +6,9 @@ use std::io::{self, BufReader, Read};
 use std::path::{Path, PathBuf};
 
 use console::{shown, LONGEST};
-use frames::{Kind, Named, Problem};
+use frames::{Kind, Named};
 use judge::{damaged, made, Sizes};
-use steyrbunk::frame::{bytes, stated_length, LEAD};
+use steyrbunk::frame::{stated_length, LEAD};
 
 /// A frame that is still to be opened, so that this can be done beside other work.
 pub enum Job {
@@ -104,9 +104,8 @@ fn framed(path: &Path, file: Vec<u8>, named: &Named) -> Result<Vec<u8>, String> 
         _ if is_named_frame => Ok(file),
         _ => {
             let frame = frames::open(path, &file, named, false);
-            let frame = frame.map_err(|problem: Problem| format!("not a frame: {problem}"))?;
-            let text = "not a frame: a frame file has no room for such sizes or settings";
-            bytes(&frame).ok_or_else(|| text.to_string())
+            let made = frame.and_then(|frame| frames::file(&frame));
+            made.map_err(|problem| format!("not a frame: {problem}"))
         }
     }
 }
