@@ -809,6 +809,445 @@ fn long_records() {
     fs::remove_dir_all(&folder).unwrap();
 }
 
+/// Four cameras by the names of their files, which are not in order: a list, a refusal, a picture's list, an empty list.
+fn four_cameras() -> [(&'static str, Vec<u8>); 4] {
+    let blank = Frame {
+        pixels: vec![0; 49],
+        ..document_frame()
+    };
+    [
+        ("d.frame", document_frame().bytes()),
+        ("b.frame", refused()),
+        ("a.pgm", pgm(&document_frame())),
+        ("c.frame", blank.bytes()),
+    ]
+}
+
+/// What is printed of them, in each format.
+fn four_printed() -> [(&'static str, String); 3] {
+    let list = |camera: u32, file: &str| {
+        format!(
+            "{{\"camera\":{camera},\"file\":\"{file}\",\"working_width\":7,\"working_height\":7,"
+        )
+    };
+    let json = [
+        list(1, "d.frame") + "\"count\":1,\"corners\":[{\"x\":3,\"y\":3,\"strength\":160000}]}\n",
+        "{\"camera\":2,\"file\":\"b.frame\",\"refused\":5,\"reason\":\"the ray radius is over 7\"}\n"
+            .to_string(),
+        list(3, "a.pgm") + "\"count\":1,\"corners\":[{\"x\":3,\"y\":3,\"strength\":160000}]}\n",
+        list(4, "c.frame") + "\"count\":0,\"corners\":[]}\n",
+    ];
+    [
+        (
+            "list",
+            format!(
+                "# camera 1: d.frame\n{DOCUMENT}# camera 2: b.frame\nrefused 5: the ray radius is over 7\n\
+                 # camera 3: a.pgm\n{DOCUMENT}# camera 4: c.frame\n7 7 0\n"
+            ),
+        ),
+        (
+            "csv",
+            "camera,file,answer,words,corner,x,y,strength\n1,d.frame,0,,0,3,3,160000\n\
+             2,b.frame,5,the ray radius is over 7,,,,\n3,a.pgm,0,,0,3,3,160000\n4,c.frame,0,,,,,\n"
+                .to_string(),
+        ),
+        ("json", json.concat()),
+    ]
+}
+
+/// The cameras of an arch by the names of their files, or end to end in one: the same lists, and a refusal that is seen.
+#[test]
+fn an_arch() {
+    let folder = folder("arch");
+    let mut together = Vec::new();
+    for (name, content) in four_cameras() {
+        fs::write(folder.join(name), &content).unwrap();
+        together.extend(match name {
+            "a.pgm" => document_frame().bytes(),
+            _ => content,
+        });
+    }
+    let names = four_cameras().map(|(name, _)| name);
+    fs::write(folder.join("all"), &together).unwrap();
+    fs::write(
+        folder.join("more"),
+        [&together[..], b"bytes behind"].concat(),
+    )
+    .unwrap();
+    for (format, printed) in four_printed() {
+        let words = [&["arch", "--format", format][..], &SETTINGS, &names].concat();
+        let output = run(&folder, &words);
+        assert_eq!((out(&output), status(&output)), (printed.clone(), 1));
+        assert_eq!(
+            error(&output),
+            "camera 1: d.frame: note: a frame file has its own settings; --override replaces them\n\
+             camera 2: b.frame: refused 5: the ray radius is over 7\n4 cameras, 1 without a list\n"
+        );
+        let words = ["arch", "--quiet", "--cameras", "4", "--format", format];
+        for name in ["all", "more", "-"] {
+            let words = [&words[..], &[name]].concat();
+            let (output, shown) = match name {
+                "-" => (fed(&folder, &words, &together), "standard input"),
+                _ => (run(&folder, &words), name),
+            };
+            let expected = names
+                .iter()
+                .fold(printed.clone(), |text, file| text.replace(file, shown));
+            assert_eq!((out(&output), status(&output)), (expected, 1));
+            let message = format!("camera 2: {shown}: refused 5: the ray radius is over 7\n");
+            assert_eq!(error(&output), message);
+        }
+    }
+    let sound = run(&folder, &["arch", "--quiet", "d.frame", "c.frame"]);
+    let list = format!("# camera 1: d.frame\n{DOCUMENT}# camera 2: c.frame\n7 7 0\n");
+    assert_eq!((out(&sound), status(&sound)), (list, 0));
+    let settings = ["--override", "--ray-radius", "8"];
+    let output = run(&folder, &[&["arch"][..], &settings, &names].concat());
+    assert_eq!(out(&output).matches("refused 5: ").count(), 4);
+}
+
+/// With --out each camera has its own results; a camera that is refused has none, and none from yesterday.
+#[test]
+fn results_of_an_arch() {
+    let folder = folder("arch-results");
+    let lists = folder.join("lists");
+    // Two cameras whose files have one name, as they come from two folders.
+    for camera in ["left", "right"] {
+        fs::create_dir_all(folder.join(camera)).unwrap();
+        fs::write(
+            folder.join(camera).join("dawn.frame"),
+            document_frame().bytes(),
+        )
+        .unwrap();
+    }
+    let words = [
+        "arch",
+        "--quiet",
+        "--out",
+        "lists",
+        "--draw",
+        "svg",
+        "right/dawn.frame",
+        "left/dawn.frame",
+    ];
+    for turned_down in [None, Some(2), Some(1)] {
+        for (camera, name) in ["right", "left"].iter().enumerate() {
+            let content = match turned_down == Some(camera + 1) {
+                true => refused(),
+                false => document_frame().bytes(),
+            };
+            fs::write(folder.join(name).join("dawn.frame"), content).unwrap();
+        }
+        let output = run(&folder, &words);
+        assert_eq!(
+            (out(&output).as_str(), status(&output)),
+            ("", i32::from(turned_down.is_some()))
+        );
+        let manifest = fs::read_to_string(lists.join("run.json")).unwrap();
+        let rows: Vec<&str> = manifest
+            .lines()
+            .filter(|line| line.starts_with("{\"name\""))
+            .collect();
+        assert_eq!(rows.len(), 2);
+        let mut expected = Vec::new();
+        for camera in 1..=2 {
+            let name = format!("dawn.frame.{camera}");
+            let row = rows[camera - 1];
+            assert!(row.contains(&format!("{{\"name\":\"{name}\"")), "{row}");
+            assert!(row.contains(&format!("\"camera\":{camera},")), "{row}");
+            assert!(row.contains(["/right/dawn.frame", "/left/dawn.frame"][camera - 1]));
+            if turned_down == Some(camera) {
+                assert!(
+                    row.contains("\"answer\":5,") && row.contains("\"results\":[]"),
+                    "{row}"
+                );
+                continue;
+            }
+            let results = ["corners", "svg"].map(|ending| format!("{name}.{ending}"));
+            let named = format!("\"results\":[\"{}\",\"{}\"]", results[0], results[1]);
+            assert!(
+                row.contains("\"answer\":0,") && row.contains(&named),
+                "{row}"
+            );
+            assert_eq!(
+                fs::read_to_string(lists.join(&results[0])).unwrap(),
+                DOCUMENT
+            );
+            expected.extend(results);
+        }
+        assert_eq!(results(&lists, "dawn"), expected);
+    }
+    // The same in one file, as records, beside it.
+    let both = [document_frame().bytes(), document_frame().bytes()].concat();
+    fs::create_dir_all(folder.join("one")).unwrap();
+    fs::write(folder.join("one/all"), &both).unwrap();
+    let words = [
+        "arch",
+        "--quiet",
+        "--beside",
+        "--format",
+        "record",
+        "--cameras",
+        "2",
+        "one/all",
+    ];
+    assert_eq!(status(&run(&folder, &words)), 0);
+    assert_eq!(
+        results(&folder.join("one"), "all"),
+        ["all.1.record", "all.2.record"]
+    );
+    for camera in 1..=2 {
+        let record = fs::read(folder.join(format!("one/all.{camera}.record"))).unwrap();
+        assert_eq!(record, record_of(DOCUMENT));
+    }
+    let manifest = fs::read_to_string(folder.join("one/run.json")).unwrap();
+    assert!(manifest.contains("\n\"settings\":null,\n"), "{manifest}");
+    assert_eq!(
+        manifest.matches("\"settings\":{\"ray_radius\":1,").count(),
+        2
+    );
+    assert_eq!(
+        manifest
+            .matches(&format!("\"bytes\":{},", both.len()))
+            .count(),
+        2
+    );
+    // A number of cameras that is refused leaves no list either.
+    for (cameras, entries) in [("9", 8), ("1", 1), ("0", 1), ("18446744073709551615", 8)] {
+        let words = ["arch", "--quiet", "--beside", "--cameras", "2", "one/all"];
+        assert_eq!(status(&run(&folder, &words)), 0);
+        let words = [
+            "arch",
+            "--quiet",
+            "--beside",
+            "--cameras",
+            cameras,
+            "one/all",
+        ];
+        let output = run(&folder, &words);
+        assert_eq!((out(&output).as_str(), status(&output)), ("", 1));
+        assert_eq!(error(&output).matches("refused 21: ").count(), entries);
+        assert!(results(&folder.join("one"), "all").is_empty(), "{cameras}");
+        let manifest = fs::read_to_string(folder.join("one/run.json")).unwrap();
+        assert_eq!(manifest.matches("\"answer\":21,").count(), entries);
+    }
+    let words = ["arch", "--beside", "left/dawn.frame", "right/dawn.frame"];
+    let output = run(&folder, &words);
+    assert_eq!((out(&output).as_str(), status(&output)), ("", 2));
+    assert!(error(&output).contains("--beside wants all files of an arch in one folder"));
+}
+
+/// A number of cameras that is not 2 to 8: nothing is read, and nothing is printed as a list.
+#[test]
+fn wrong_numbers_of_cameras() {
+    let folder = folder("arch-numbers");
+    fs::write(folder.join("a"), document_frame().bytes()).unwrap();
+    let nine = [&["arch", "--quiet"][..], &["a"; 9]].concat();
+    for words in [
+        &["arch", "--quiet", "a"][..],
+        &nine,
+        &["arch", "--quiet", "--cameras", "0", "a"],
+        &["arch", "--quiet", "--cameras", "1", "missing"],
+        &["arch", "--quiet", "--cameras", "9", "a"],
+        &["arch", "--quiet", "--cameras", "18446744073709551615", "a"],
+    ] {
+        for format in ["list", "csv", "json"] {
+            let output = run(&folder, &[words, &["--format", format]].concat());
+            assert_eq!(status(&output), 1, "{words:?}");
+            let (text, message) = (out(&output), error(&output));
+            assert!(message
+                .lines()
+                .all(|line| line.contains(": refused 21: the camera count")));
+            let number = match format {
+                "list" => "refused 21: ",
+                "csv" => ",21,",
+                _ => "\"refused\":21,",
+            };
+            // A refusal a camera, and nothing else but what goes before it.
+            let is_head =
+                |line: &&str| line.starts_with("# camera ") || line.starts_with("camera,");
+            let rest: Vec<&str> = text.lines().filter(|line| !is_head(line)).collect();
+            assert!(rest.iter().all(|line| line.contains(number)), "{text}");
+            assert_eq!(rest.len(), message.lines().count());
+        }
+    }
+    let message = error(&run(&folder, &["arch", "a"]));
+    assert!(message.contains("; frame files end to end in one file go with --cameras"));
+    for number in 2..=8 {
+        let words = [&["arch", "--quiet"][..], &vec!["a"; number]].concat();
+        let output = run(&folder, &words);
+        assert_eq!(status(&output), 0);
+        assert_eq!(out(&output).matches(DOCUMENT).count(), number);
+    }
+}
+
+/// A file that is no whole frame file is answered as it is alone, and shifts no other camera's frame.
+#[test]
+fn damaged_files_of_an_arch() {
+    let folder = folder("arch-damaged");
+    let sound = document_frame().bytes();
+    fs::write(folder.join("good"), &sound).unwrap();
+    fs::create_dir_all(folder.join("bad folder")).unwrap();
+    let mut damaged: Vec<Vec<u8>> = vec![
+        b"".to_vec(),
+        b"\x01".to_vec(),
+        [&sound[..], &sound].concat(),
+        b"P5 7 7 255\n".to_vec(),
+        b"\x89PNG\r\n\x1a\n".to_vec(),
+        [7; 100].to_vec(),
+        vec![1, 0xFF, 0xFF, 0xFF, 0xFF, 0, 0],
+    ];
+    damaged.extend(
+        (1..sound.len())
+            .step_by(7)
+            .map(|length| sound[..length].to_vec()),
+    );
+    damaged.extend([1, 5, 69].map(|more| [&sound[..], &vec![1; more]].concat()));
+    let mut names = vec!["missing".to_string(), "bad folder".to_string()];
+    for (at, content) in damaged.iter().enumerate() {
+        names.push(format!("bad {at}"));
+        fs::write(folder.join(&names[names.len() - 1]), content).unwrap();
+    }
+    for name in &names {
+        // A folder alone is gone through; as a camera's file it is no file.
+        let alone = match name.as_str() {
+            "bad folder" => {
+                "bad folder: not a regular file (a folder, pipe, socket or device)\n".to_string()
+            }
+            _ => error(&run(&folder, &[name])),
+        };
+        let words = alone.strip_prefix(&format!("{name}: ")).unwrap();
+        for place in 1..=3 {
+            let mut files = ["good"; 3];
+            files[place - 1] = name;
+            let output = run(&folder, &[&["arch", "--quiet"][..], &files].concat());
+            assert_eq!(status(&output), 1);
+            assert_eq!(error(&output), format!("camera {place}: {alone}"));
+            let block = |camera: usize| match camera == place {
+                true if words.starts_with("refused ") => {
+                    words.split(';').next().unwrap().trim_end().to_string() + "\n"
+                }
+                true => format!("no list: {words}"),
+                false => DOCUMENT.to_string(),
+            };
+            let expected: String = (1..=3)
+                .map(|camera| {
+                    format!(
+                        "# camera {camera}: {}\n{}",
+                        files[camera - 1],
+                        block(camera)
+                    )
+                })
+                .collect();
+            // A strange file has more words on standard error.
+            let expected =
+                expected.replace(", and its opening is that of no picture that is known", "");
+            assert_eq!(out(&output), expected);
+        }
+    }
+    assert_eq!(names.len(), 2 + 7 + 10 + 3);
+}
+
+/// Where frames end to end begin, and what that alone answers: document 02's text, a second time.
+fn shared_out(frames: &[u8], cameras: usize) -> Vec<Result<&[u8], u32>> {
+    let (mut rest, mut shares) = (Some(frames), Vec::new());
+    for _ in 0..cameras {
+        let left = rest.unwrap_or_default();
+        shares.push(if left.len() < 5 {
+            rest = None;
+            Err(11)
+        } else {
+            let stated = u32::from_be_bytes(left[1..5].try_into().unwrap()) as usize;
+            rest = left.get(5 + stated..);
+            left.get(..5 + stated).ok_or(13)
+        });
+    }
+    shares
+}
+
+/// Made and damaged frame files end to end: each camera has what its frame alone has by the original.
+#[test]
+fn many_arches() {
+    let folder = folder("arches");
+    let (mut seen, mut lists) = (BTreeMap::new(), 0);
+    for arch in 0..120u64 {
+        let cameras = 2 + (arch % 7) as usize;
+        let file = |camera: usize| match (arch + camera as u64) % 3 {
+            0 => judge::damaged(61, 8 * arch + camera as u64),
+            _ => judge::make(61, 8 * arch + camera as u64),
+        };
+        let mut frames = (0..cameras).map(file).collect::<Vec<_>>().concat();
+        // Cut, whole, or with bytes behind.
+        match arch % 3 {
+            0 => frames.truncate(frames.len() - (arch as usize * 7) % frames.len().min(300)),
+            1 => frames.extend([1; 30]),
+            _ => {}
+        }
+        let words = ["arch", "--quiet", "--cameras", &cameras.to_string(), "-"];
+        let output = fed(&folder, &words, &frames);
+        let text = out(&output);
+        let blocks: Vec<&str> = text.split("# camera ").skip(1).collect();
+        assert_eq!(blocks.len(), cameras);
+        let mut refusals = 0;
+        for (at, share) in shared_out(&frames, cameras).into_iter().enumerate() {
+            let head = format!("{}: standard input\n", at + 1);
+            let block = blocks[at].strip_prefix(&head).unwrap();
+            let alone = match share {
+                Ok(file) => judge::printed(file, Room::FREE),
+                Err(number) => format!("refused {number}\n").into_bytes(),
+            };
+            match alone.strip_prefix(b"refused ") {
+                Some(number) => {
+                    let number = String::from_utf8_lossy(number.trim_ascii()).into_owned();
+                    assert!(
+                        block.starts_with(&format!("refused {number}: ")),
+                        "{arch}: {block}"
+                    );
+                    *seen.entry(number).or_insert(0) += 1;
+                    refusals += 1;
+                }
+                None => {
+                    assert_eq!(strengths(block.as_bytes()), strengths(&alone), "{arch}");
+                    lists += 1;
+                }
+            }
+        }
+        assert_eq!(status(&output), i32::from(refusals > 0));
+    }
+    assert!(
+        seen.contains_key("11") && seen.contains_key("13"),
+        "{seen:?}"
+    );
+    assert!(seen.len() > 5 && lists > 200, "{seen:?} {lists}");
+}
+
+/// Files of frames that no arch has: longer than eight frames, a folder, a device, nothing.
+#[test]
+fn strange_files_of_frames() {
+    let folder = folder("arch-strange");
+    let long = fs::File::create(folder.join("long")).unwrap();
+    long.set_len(1 << 40).unwrap();
+    fs::create_dir_all(folder.join("sub")).unwrap();
+    fs::write(folder.join("empty"), b"").unwrap();
+    fs::write(folder.join("byte"), [1]).unwrap();
+    for (name, words) in [
+        ("long", "longer than any eight frames that are taken"),
+        ("sub", "not a regular file"),
+        ("/dev/zero", "not a regular file"),
+        ("missing", "No such file"),
+        ("empty", "refused 11: "),
+        ("byte", "refused 11: "),
+    ] {
+        let output = run(&folder, &["arch", "--quiet", "--cameras", "2", name]);
+        assert_eq!(status(&output), 1);
+        for camera in 1..=2 {
+            let message = format!("camera {camera}: {name}: {words}");
+            assert!(error(&output).contains(&message), "{}", error(&output));
+        }
+        assert_eq!(out(&output).lines().count(), 4, "{}", out(&output));
+    }
+}
+
 /// The chunks of a PNG, taken apart; what it stores, without the bytes in front of rows.
 fn pixels(png: &[u8]) -> (usize, usize, Vec<u8>) {
     assert_eq!(png[..8], *b"\x89PNG\r\n\x1a\n");
@@ -908,6 +1347,22 @@ fn help_and_wrong_words() {
         &["read", "--format", "record", "a", "b"],
         &["read", "--beside", "-"],
         &["read", "--out", "x", "--beside", "a"],
+        &["arch"],
+        &["arch", "--cameras", "2"],
+        &["arch", "--cameras"],
+        &["arch", "--cameras", "two", "a"],
+        &["arch", "--cameras", "-2", "a"],
+        &["arch", "--cameras", "99999999999999999999", "a"],
+        &["arch", "--cameras", "2", "a", "b"],
+        &["arch", "--cameras", "2", "--ray-radius", "4", "a"],
+        &["arch", "--cameras", "2", "--override", "a"],
+        &["arch", "--draw", "svg", "a", "b"],
+        &["arch", "--format", "record", "a", "b"],
+        &["arch", "--format", "record", "--cameras", "2", "a"],
+        &["arch", "--beside", "--cameras", "2", "-"],
+        &["arch", "--beside", "a", "-"],
+        &["--cameras", "2", "a"],
+        &["read", "--cameras", "2", "a"],
     ] {
         let output = run(&folder, words);
         assert_eq!(
