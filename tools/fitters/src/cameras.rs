@@ -1,11 +1,13 @@
 //! All cameras of an arch, answered by one call of the library.
 
+use std::iter;
 use std::time::Instant;
 
 use frames::Problem;
 use steyrbunk::frame::{Frame, LEAD};
 use steyrbunk::{arch, Found, Refusal};
 
+use crate::record::Read;
 use crate::work::{advised, directed, Done, Planned, Worker};
 
 /// Holds the place of a file that is no whole frame file, which would shift the frames behind it: it states that no byte follows.
@@ -15,6 +17,12 @@ const STAND_IN: [u8; LEAD] = [0; LEAD];
 struct Laid {
     frames: Vec<u8>,
     problems: Vec<Option<Problem>>,
+}
+
+/// The frame of each camera, where it can be taken apart: what it is drawn from and told of with. The answers are the library's.
+fn taken_apart(frames: &[u8]) -> impl Iterator<Item = Option<Frame<'_>>> {
+    let files = arch::whole(frames).map(|file| Frame::parse(file).ok());
+    files.chain(iter::repeat(None))
 }
 
 /// Advice for one file that was named as a camera's.
@@ -34,10 +42,11 @@ impl Worker<'_> {
         let cameras = together.unwrap_or(planned.len());
         let answers = self.finder.arch(cameras, &laid.frames);
         let answers = answers.unwrap_or_else(|refusal| vec![Err(refusal); planned.len()]);
-        let mut files = arch::whole(&laid.frames);
-        let each = planned.iter().zip(&mut all).zip(laid.problems).zip(answers);
-        for (((planned, done), problem), answer) in each {
-            let frame = files.next().and_then(|file| Frame::parse(file).ok());
+        let told = laid.problems.into_iter().zip(answers);
+        let frames = taken_apart(&laid.frames);
+        for (((planned, done), frame), (problem, answer)) in
+            planned.iter().zip(&mut all).zip(frames).zip(told)
+        {
             let outcome = match problem {
                 Some(problem) => Err(problem),
                 None => self.camera(planned, frame, answer, done),
@@ -89,15 +98,12 @@ impl Worker<'_> {
         let file = self.read(planned[0].frame, &mut all[0]);
         let (read, problem) = (all[0].record.read.clone(), file.as_ref().err().cloned());
         let frames = file.unwrap_or_default();
-        let mut files = arch::whole(&frames);
-        for done in all {
-            let frame = files.next().and_then(|file| Frame::parse(file).ok());
-            done.record.read = read.clone();
-            if let (Some(read), Some(frame)) = (&mut done.record.read, frame) {
-                read.settings = Some(frame.settings);
-            }
+        for (done, frame) in all.iter_mut().zip(taken_apart(&frames)) {
+            done.record.read = read.clone().map(|read| Read {
+                settings: frame.map(|frame| frame.settings),
+                ..read
+            });
         }
-        drop(files);
         Laid {
             frames,
             problems: vec![problem; planned.len()],

@@ -53,7 +53,7 @@ which have their own settings. Each camera is printed with its number, as a list
 every format: list has a line '# camera I: FILE' before each; csv the columns camera, file, answer,
 words, corner, x, y, strength, and one line for a camera without corners; json a field camera.
 Results are NAME.I.corners and so on; --beside wants all files in one folder. A file that is no
-whole frame file or picture is answered as it is alone, and the others as if it had nothing wrong.
+whole frame file and no picture is answered as it is alone, and the other cameras are found as ever.
 A number of cameras that is not 2 to 8 is refused, 21.
 
 steyrbunk read prints the lists of records as those of their frames, in every format and by the same
