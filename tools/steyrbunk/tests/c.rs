@@ -138,13 +138,7 @@ fn the_example() {
     }
     // More corners than the example has room for: it says that its list is cut.
     let (width, height) = (1024, 1024);
-    let shade = |at: usize| {
-        if (at % width / 5 + at / width / 5) % 2 == 0 {
-            40
-        } else {
-            190
-        }
-    };
+    let shade = |at: usize| [40, 190][(at % width / 5 + at / width / 5) % 2];
     let mut many = format!("P5 {width} {height} 255\n").into_bytes();
     many.extend((0..width * height).map(shade));
     let output = run(&program, &many);
