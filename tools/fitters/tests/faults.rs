@@ -327,10 +327,10 @@ fn killed_anywhere() {
         } = &mut courses[kind];
         let days = [&results[0], &results[1]];
         // Yesterday's run, whole; then today's, killed on its way.
-        write_all(&at.join(&*from), &sources[0]);
+        write_all(&at.join(*from), &sources[0]);
         assert_eq!(status(&run(&at, words)), 0);
         assert_eq!(held(&lists, &days[..1]), Some(0));
-        write_all(&at.join(&*from), &sources[1]);
+        write_all(&at.join(*from), &sources[1]);
         let mut child = command(&at, words).stderr(Stdio::null()).spawn().unwrap();
         sleep(usual.mul_f64((point / 2) as f64 / POINTS as f64));
         if point % 2 == 0 {
