@@ -81,6 +81,15 @@ fn refused() -> Vec<u8> {
     .bytes()
 }
 
+/// Document 01's frame without its corner.
+fn blank() -> Vec<u8> {
+    Frame {
+        pixels: vec![0; 49],
+        ..document_frame()
+    }
+    .bytes()
+}
+
 /// The names in a folder that begin with a frame's, its own not among them.
 fn results(folder: &Path, frame: &str) -> Vec<String> {
     let names = fs::read_dir(folder).unwrap();
@@ -811,15 +820,11 @@ fn long_records() {
 
 /// Four cameras by the names of their files, which are not in order: a list, a refusal, a picture's list, an empty list.
 fn four_cameras() -> [(&'static str, Vec<u8>); 4] {
-    let blank = Frame {
-        pixels: vec![0; 49],
-        ..document_frame()
-    };
     [
         ("d.frame", document_frame().bytes()),
         ("b.frame", refused()),
         ("a.pgm", pgm(&document_frame())),
-        ("c.frame", blank.bytes()),
+        ("c.frame", blank()),
     ]
 }
 
@@ -906,135 +911,122 @@ fn an_arch() {
     assert_eq!(out(&output).matches("refused 5: ").count(), 4);
 }
 
+/// Three cameras that are not alike: a list, an empty one, and one of more corners.
+fn three_cameras() -> [Vec<u8>; 3] {
+    let many = several_frames().remove("noise.frame").unwrap();
+    [document_frame().bytes(), blank(), many]
+}
+
+/// The list and the drawing that a frame has alone.
+fn alone(folder: &Path, content: &[u8]) -> [Vec<u8>; 2] {
+    fs::write(folder.join("alone.frame"), content).unwrap();
+    let words = ["--out", "alone", "--draw", "svg", "alone.frame"];
+    assert_eq!(status(&run(folder, &words)), 0);
+    ["corners", "svg"]
+        .map(|ending| fs::read(folder.join(format!("alone/alone.frame.{ending}"))).unwrap())
+}
+
 /// With --out each camera has its own results; a camera that is refused has none, and none from yesterday.
 #[test]
 fn results_of_an_arch() {
     let folder = folder("arch-results");
     let lists = folder.join("lists");
-    // Two cameras whose files have one name, as they come from two folders.
+    // Two cameras whose files have one name, and names that are not in order.
+    let files = ["right/dawn.frame", "left/dawn.frame", "above.frame"];
+    let names = ["dawn.frame.1", "dawn.frame.2", "above.frame.3"];
     for camera in ["left", "right"] {
         fs::create_dir_all(folder.join(camera)).unwrap();
-        fs::write(
-            folder.join(camera).join("dawn.frame"),
-            document_frame().bytes(),
-        )
-        .unwrap();
     }
-    let words = [
-        "arch",
-        "--quiet",
-        "--out",
-        "lists",
-        "--draw",
-        "svg",
-        "right/dawn.frame",
-        "left/dawn.frame",
-    ];
-    for turned_down in [None, Some(2), Some(1)] {
-        for (camera, name) in ["right", "left"].iter().enumerate() {
-            let content = match turned_down == Some(camera + 1) {
+    let cameras = three_cameras();
+    let expected = cameras.each_ref().map(|content| alone(&folder, content));
+    let words = ["arch", "--quiet", "--out", "lists", "--draw", "svg"];
+    for turned_down in [None, Some(1), Some(0), Some(2), None] {
+        for (at, file) in files.iter().enumerate() {
+            let content = match turned_down == Some(at) {
                 true => refused(),
-                false => document_frame().bytes(),
+                false => cameras[at].clone(),
             };
-            fs::write(folder.join(name).join("dawn.frame"), content).unwrap();
+            fs::write(folder.join(file), content).unwrap();
         }
-        let output = run(&folder, &words);
-        assert_eq!(
-            (out(&output).as_str(), status(&output)),
-            ("", i32::from(turned_down.is_some()))
-        );
+        let output = run(&folder, &[&words[..], &files].concat());
+        let failed = i32::from(turned_down.is_some());
+        assert_eq!((out(&output).as_str(), status(&output)), ("", failed));
         let manifest = fs::read_to_string(lists.join("run.json")).unwrap();
-        let rows: Vec<&str> = manifest
-            .lines()
-            .filter(|line| line.starts_with("{\"name\""))
-            .collect();
-        assert_eq!(rows.len(), 2);
-        let mut expected = Vec::new();
-        for camera in 1..=2 {
-            let name = format!("dawn.frame.{camera}");
-            let row = rows[camera - 1];
-            assert!(row.contains(&format!("{{\"name\":\"{name}\"")), "{row}");
-            assert!(row.contains(&format!("\"camera\":{camera},")), "{row}");
-            assert!(row.contains(["/right/dawn.frame", "/left/dawn.frame"][camera - 1]));
-            if turned_down == Some(camera) {
-                assert!(
-                    row.contains("\"answer\":5,") && row.contains("\"results\":[]"),
-                    "{row}"
-                );
-                continue;
-            }
+        let is_row = |line: &&str| line.starts_with("{\"name\"");
+        let rows: Vec<&str> = manifest.lines().filter(is_row).collect();
+        assert_eq!(rows.len(), 3);
+        let mut there = 1;
+        for (at, (row, name)) in rows.iter().zip(names).enumerate() {
+            let camera = format!("/{}\",\"camera\":{},", files[at], at + 1);
+            assert!(row.starts_with(&format!("{{\"name\":\"{name}\",")), "{row}");
+            assert!(row.contains(&camera), "{row}");
             let results = ["corners", "svg"].map(|ending| format!("{name}.{ending}"));
-            let named = format!("\"results\":[\"{}\",\"{}\"]", results[0], results[1]);
+            let told = match turned_down == Some(at) {
+                true => "\"results\":[]".to_string(),
+                false => format!("\"results\":[\"{}\",\"{}\"]", results[0], results[1]),
+            };
+            let answer = if turned_down == Some(at) { 5 } else { 0 };
             assert!(
-                row.contains("\"answer\":0,") && row.contains(&named),
+                row.contains(&told) && row.contains(&format!("\"answer\":{answer},")),
                 "{row}"
             );
-            assert_eq!(
-                fs::read_to_string(lists.join(&results[0])).unwrap(),
-                DOCUMENT
-            );
-            expected.extend(results);
+            if turned_down != Some(at) {
+                let contents = results.map(|result| fs::read(lists.join(result)).unwrap());
+                assert!(contents == expected[at], "{name}");
+                there += 2;
+            }
         }
-        assert_eq!(results(&lists, "dawn"), expected);
+        assert_eq!(fs::read_dir(&lists).unwrap().count(), there);
     }
-    // The same in one file, as records, beside it.
-    let both = [document_frame().bytes(), document_frame().bytes()].concat();
-    fs::create_dir_all(folder.join("one")).unwrap();
-    fs::write(folder.join("one/all"), &both).unwrap();
-    let words = [
-        "arch",
-        "--quiet",
-        "--beside",
-        "--format",
-        "record",
-        "--cameras",
-        "2",
-        "one/all",
-    ];
-    assert_eq!(status(&run(&folder, &words)), 0);
-    assert_eq!(
-        results(&folder.join("one"), "all"),
-        ["all.1.record", "all.2.record"]
-    );
-    for camera in 1..=2 {
-        let record = fs::read(folder.join(format!("one/all.{camera}.record"))).unwrap();
-        assert_eq!(record, record_of(DOCUMENT));
-    }
-    let manifest = fs::read_to_string(folder.join("one/run.json")).unwrap();
-    assert!(manifest.contains("\n\"settings\":null,\n"), "{manifest}");
-    assert_eq!(
-        manifest.matches("\"settings\":{\"ray_radius\":1,").count(),
-        2
-    );
-    assert_eq!(
-        manifest
-            .matches(&format!("\"bytes\":{},", both.len()))
-            .count(),
-        2
-    );
-    // A number of cameras that is refused leaves no list either.
-    for (cameras, entries) in [("9", 8), ("1", 1), ("0", 1), ("18446744073709551615", 8)] {
-        let words = ["arch", "--quiet", "--beside", "--cameras", "2", "one/all"];
-        assert_eq!(status(&run(&folder, &words)), 0);
-        let words = [
-            "arch",
-            "--quiet",
-            "--beside",
-            "--cameras",
-            cameras,
-            "one/all",
-        ];
-        let output = run(&folder, &words);
-        assert_eq!((out(&output).as_str(), status(&output)), ("", 1));
-        assert_eq!(error(&output).matches("refused 21: ").count(), entries);
-        assert!(results(&folder.join("one"), "all").is_empty(), "{cameras}");
-        let manifest = fs::read_to_string(folder.join("one/run.json")).unwrap();
-        assert_eq!(manifest.matches("\"answer\":21,").count(), entries);
-    }
-    let words = ["arch", "--beside", "left/dawn.frame", "right/dawn.frame"];
-    let output = run(&folder, &words);
+    let output = run(&folder, &[&["arch", "--beside"][..], &files].concat());
     assert_eq!((out(&output).as_str(), status(&output)), ("", 2));
     assert!(error(&output).contains("--beside wants all files of an arch in one folder"));
+}
+
+/// The same of frames in one file, beside it; and a number of cameras that is refused leaves no list either.
+#[test]
+fn results_of_an_arch_in_one_file() {
+    let folder = folder("arch-file");
+    let (cameras, one) = (three_cameras(), folder.join("one"));
+    fs::create_dir_all(&one).unwrap();
+    fs::write(one.join("all"), cameras.concat()).unwrap();
+    let call = |cameras: &str, format: &str| {
+        let words = [
+            "arch", "--quiet", "--beside", "--draw", "svg", "--format", format,
+        ];
+        run(
+            &folder,
+            &[&words[..], &["--cameras", cameras, "one/all"]].concat(),
+        )
+    };
+    let manifest = || fs::read_to_string(one.join("run.json")).unwrap();
+    for format in ["list", "record"] {
+        assert_eq!(status(&call("3", format)), 0);
+        for (at, content) in cameras.iter().enumerate() {
+            let [list, drawing] = alone(&folder, content);
+            let (ending, list) = match format {
+                "record" => ("record", record_of(&String::from_utf8(list).unwrap())),
+                _ => ("corners", list),
+            };
+            let name = |ending| one.join(format!("all.{}.{ending}", at + 1));
+            assert!(fs::read(name(ending)).unwrap() == list, "{at} as {format}");
+            assert!(fs::read(name("svg")).unwrap() == drawing, "{at}");
+        }
+        assert_eq!(results(&one, "all").len(), 6);
+    }
+    assert!(manifest().contains("\n\"settings\":null,\n"));
+    let bytes = format!("\"bytes\":{},", cameras.concat().len());
+    for (told, times) in [(bytes.as_str(), 3), ("\"settings\":{\"ray_radius\":1,", 3)] {
+        assert_eq!(manifest().matches(told).count(), times, "{told}");
+    }
+    for (cameras, entries) in [("9", 8), ("1", 1), ("0", 1), ("18446744073709551615", 8)] {
+        assert_eq!(status(&call("2", "list")), 0);
+        let output = call(cameras, "list");
+        assert_eq!((out(&output).as_str(), status(&output)), ("", 1));
+        assert_eq!(error(&output).matches("refused 21: ").count(), entries);
+        assert!(results(&one, "all").is_empty(), "{cameras}");
+        assert_eq!(manifest().matches("\"answer\":21,").count(), entries);
+    }
 }
 
 /// A number of cameras that is not 2 to 8: nothing is read, and nothing is printed as a list.
@@ -1069,6 +1061,11 @@ fn wrong_numbers_of_cameras() {
             let rest: Vec<&str> = text.lines().filter(|line| !is_head(line)).collect();
             assert!(rest.iter().all(|line| line.contains(number)), "{text}");
             assert_eq!(rest.len(), message.lines().count());
+            let heads = text
+                .lines()
+                .filter(|line| line.starts_with("# camera "))
+                .count();
+            assert_eq!(heads, if format == "list" { rest.len() } else { 0 });
         }
     }
     let message = error(&run(&folder, &["arch", "a"]));
@@ -1221,10 +1218,25 @@ fn many_arches() {
     assert!(seen.len() > 5 && lists > 200, "{seen:?} {lists}");
 }
 
-/// Files of frames that no arch has: longer than eight frames, a folder, a device, nothing.
+/// Files of frames that no arch has: longer than eight frames, a folder, a device, nothing. One that is longer than a frame is taken.
 #[test]
 fn strange_files_of_frames() {
     let folder = folder("arch-strange");
+    let large = Frame {
+        width: 4096,
+        height: 2048,
+        pixels: vec![0; 4096 * 2048],
+        ..document_frame()
+    };
+    fs::write(folder.join("large"), large.bytes().repeat(3)).unwrap();
+    let output = run(&folder, &["arch", "--quiet", "--cameras", "3", "large"]);
+    assert_eq!(
+        (
+            out(&output).matches("4096 2048 0\n").count(),
+            status(&output)
+        ),
+        (3, 0)
+    );
     let long = fs::File::create(folder.join("long")).unwrap();
     long.set_len(1 << 40).unwrap();
     fs::create_dir_all(folder.join("sub")).unwrap();
