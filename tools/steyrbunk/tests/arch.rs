@@ -62,7 +62,7 @@ fn refused(number: u32) -> Answer {
     }
 }
 
-/// A part between guards, and the part again; the guards must be as they were.
+/// A part between guards.
 fn between<T: Copy>(part: &[T], guard: T) -> Vec<T> {
     let guard = [guard; GUARD];
     [&guard, part, &guard].concat()
@@ -73,6 +73,7 @@ fn middle<T>(all: &mut [T]) -> &mut [T] {
     &mut all[GUARD..end]
 }
 
+/// The part again; the guards must be as they were.
 fn taken_out<T: Copy + PartialEq>(all: &mut [T], guard: T) -> Vec<T> {
     let part = middle(all).to_vec();
     assert!(
@@ -82,7 +83,7 @@ fn taken_out<T: Copy + PartialEq>(all: &mut [T], guard: T) -> Vec<T> {
     part
 }
 
-/// The same for everything that is lent.
+/// Does something to every part that is lent.
 fn each(lent: &mut Lent, bytes: impl Fn(&mut Vec<u8>), words: impl Fn(&mut Vec<u32>)) {
     bytes(&mut lent.working);
     lent.tables.iter_mut().for_each(&words);
@@ -165,6 +166,7 @@ fn file(random: &mut Random) -> Vec<u8> {
     file
 }
 
+/// The frames of an arch, whole or not.
 fn frames(random: &mut Random, cameras: usize) -> Vec<u8> {
     let files: Vec<Vec<u8>> = (0..cameras).map(|_| file(random)).collect();
     laid(random, &files)
