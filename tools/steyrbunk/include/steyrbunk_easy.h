@@ -79,14 +79,16 @@ typedef struct {
 } steyrbunk_parts;
 
 static inline steyrbunk_parts steyrbunk_apart(void *workspace, size_t entries) {
-    steyrbunk_parts parts;
-    parts.row = (uint32_t *)workspace;
-    parts.col = parts.row + entries;
-    parts.falling = parts.col + entries;
-    parts.rising = parts.falling + entries;
-    parts.response = (float *)(parts.rising + entries);
-    parts.scratch = parts.response + entries;
-    parts.working = (uint8_t *)(parts.scratch + entries);
+    uint32_t *words = (uint32_t *)workspace;
+    steyrbunk_parts parts = {words, words, words, words, (float *)words, (float *)words, (uint8_t *)words};
+    if (entries != 0) { /* no steps from a workspace that may be null */
+        parts.col = parts.row + entries;
+        parts.falling = parts.col + entries;
+        parts.rising = parts.falling + entries;
+        parts.response = (float *)(parts.rising + entries);
+        parts.scratch = parts.response + entries;
+        parts.working = (uint8_t *)(parts.scratch + entries);
+    }
     return parts;
 }
 

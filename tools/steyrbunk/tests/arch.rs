@@ -12,7 +12,7 @@ use judge::{document_frame, dues, made, Kind, Sizes};
 use steyrbunk::arch::{self, join};
 use steyrbunk::frame::Frame;
 use steyrbunk::lent::{self, Answer, ArchAnswer, Buffers};
-use steyrbunk::{Corner, Finder, Found, Refusal};
+use steyrbunk::{raw, Corner, Finder, Found, Refusal};
 
 /// Seeded arches of each test that takes them.
 const ARCHES: u64 = 6_000;
@@ -62,7 +62,7 @@ fn refused(number: u32) -> Answer {
     }
 }
 
-/// A part between guards, and the part again; the guards must be as they were.
+/// A part between guards.
 fn between<T: Copy>(part: &[T], guard: T) -> Vec<T> {
     let guard = [guard; GUARD];
     [&guard, part, &guard].concat()
@@ -73,6 +73,7 @@ fn middle<T>(all: &mut [T]) -> &mut [T] {
     &mut all[GUARD..end]
 }
 
+/// The part again; the guards must be as they were.
 fn taken_out<T: Copy + PartialEq>(all: &mut [T], guard: T) -> Vec<T> {
     let part = middle(all).to_vec();
     assert!(
@@ -82,7 +83,7 @@ fn taken_out<T: Copy + PartialEq>(all: &mut [T], guard: T) -> Vec<T> {
     part
 }
 
-/// The same for everything that is lent.
+/// Does something to every part that is lent.
 fn each(lent: &mut Lent, bytes: impl Fn(&mut Vec<u8>), words: impl Fn(&mut Vec<u32>)) {
     bytes(&mut lent.working);
     lent.tables.iter_mut().for_each(&words);
@@ -165,6 +166,7 @@ fn file(random: &mut Random) -> Vec<u8> {
     file
 }
 
+/// The frames of an arch, whole or not.
 fn frames(random: &mut Random, cameras: usize) -> Vec<u8> {
     let files: Vec<Vec<u8>> = (0..cameras).map(|_| file(random)).collect();
     laid(random, &files)
@@ -532,6 +534,120 @@ fn a_list_that_grows() {
         let most = found.iter().flatten().map(|found| found.corners.len());
         assert!(most.max() > Some(1_024));
     }
+}
+
+/// Memory that ends where nothing can be read: a read beyond it ends the test.
+#[cfg(target_os = "linux")]
+mod edge {
+    use std::ffi::c_void;
+    use std::{ptr, slice};
+
+    extern "C" {
+        fn mmap(
+            at: *mut c_void,
+            n: usize,
+            rights: i32,
+            how: i32,
+            file: i32,
+            from: i64,
+        ) -> *mut c_void;
+        fn mprotect(at: *mut c_void, n: usize, rights: i32) -> i32;
+        fn munmap(at: *mut c_void, n: usize) -> i32;
+    }
+
+    /// A whole number of pages, whatever their size.
+    pub const HALF: usize = 1 << 16;
+
+    pub struct Edge(*mut c_void);
+
+    impl Edge {
+        pub fn new() -> Edge {
+            // SAFETY: memory of its own, of which the second half is closed.
+            unsafe {
+                let all = mmap(ptr::null_mut(), 2 * HALF, 3, 0x22, -1, 0);
+                assert_ne!(all as isize, -1, "memory");
+                assert_eq!(mprotect(all.byte_add(HALF), HALF, 0), 0);
+                Edge(all)
+            }
+        }
+
+        /// The bytes, at the very end of what can be read.
+        pub fn hold(&mut self, bytes: &[u8]) -> &[u8] {
+            // SAFETY: the first half is this memory's own.
+            let half = unsafe { slice::from_raw_parts_mut(self.0.cast::<u8>(), HALF) };
+            let held = &mut half[HALF - bytes.len()..];
+            held.copy_from_slice(bytes);
+            held
+        }
+    }
+
+    impl Drop for Edge {
+        fn drop(&mut self) {
+            // SAFETY: it was mapped so.
+            unsafe { munmap(self.0, 2 * HALF) };
+        }
+    }
+}
+
+/// "Bytes after the last frame aren't read", though they belong to the slice; and none is read beyond the slice.
+#[cfg(target_os = "linux")]
+#[test]
+fn what_is_not_read() {
+    let mut edge = edge::Edge::new();
+    let whole = document_frame().bytes();
+    for cameras in 2..=8 {
+        let frames = join(&vec![whole.clone(); cameras]);
+        for length in 0..=frames.len() {
+            let mut lent = Lent::old(49, 3 * cameras, 0x5A);
+            let expected = second(cameras, &frames[..length], &mut lent.clone());
+            let held = edge.hold(&frames[..length]);
+            let told = lent.lend(|buffers, list| lent::arch(cameras, held, buffers, list));
+            assert_eq!(told, expected);
+        }
+        let mut lent = Lent::old(49, 3 * cameras, 0x5A);
+        let held = edge.hold(&frames);
+        let told = lent.lend(|b, list| with_bytes_behind(cameras, held, b, list));
+        assert_eq!(told[..cameras], vec![0; cameras]);
+        assert_eq!(lent.list, CORNER.repeat(cameras));
+    }
+}
+
+/// The answers of an arch whose slice goes on behind `frames`, where nothing can be read.
+#[cfg(target_os = "linux")]
+fn with_bytes_behind(cameras: usize, frames: &[u8], b: Buffers, list: &mut [f32]) -> Vec<usize> {
+    let mut told = [raw::Camera {
+        answer: 99,
+        count: 99,
+        w: 99,
+        h: 99,
+    }; 8];
+    // SAFETY: as in the wrapper, but for the end of the frames, which are to be left alone.
+    let answer = unsafe {
+        raw::steyrbunk_arch(
+            cameras,
+            frames.as_ptr(),
+            frames.len() + edge::HALF,
+            b.working.as_mut_ptr(),
+            b.working.len(),
+            b.row_cumsum.as_mut_ptr(),
+            b.row_cumsum.len(),
+            b.col_cumsum.as_mut_ptr(),
+            b.col_cumsum.len(),
+            b.diag_pos_cumsum.as_mut_ptr(),
+            b.diag_pos_cumsum.len(),
+            b.diag_neg_cumsum.as_mut_ptr(),
+            b.diag_neg_cumsum.len(),
+            b.response.as_mut_ptr(),
+            b.response.len(),
+            b.blur_scratch.as_mut_ptr(),
+            b.blur_scratch.len(),
+            list.as_mut_ptr(),
+            list.len(),
+            told.as_mut_ptr(),
+        )
+    };
+    assert_eq!(answer, 0);
+    told.iter().map(|camera| camera.answer).collect()
 }
 
 /// One arch written out.

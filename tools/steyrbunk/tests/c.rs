@@ -41,7 +41,7 @@ fn built(name: &str, file: &str) -> Option<PathBuf> {
             .output()
             .ok()
     };
-    let sanitized = with(&["-fsanitize=address,undefined"])?;
+    let sanitized = with(&["-fsanitize=address,undefined", "-fno-sanitize-recover=all"])?;
     if !sanitized.status.success() {
         let plain = with(&[])?;
         assert!(
