@@ -909,6 +909,12 @@ fn an_arch() {
     let settings = ["--override", "--ray-radius", "8"];
     let output = run(&folder, &[&["arch"][..], &settings, &names].concat());
     assert_eq!(out(&output).matches("refused 5: ").count(), 4);
+    // A picture with settings that no frame file can hold is not laid among the others.
+    let words = ["arch", "--quiet", "--min-cluster-size", "65536"];
+    let output = run(&folder, &[&words[..], &["a.pgm", "d.frame"]].concat());
+    let text = "no list: a frame file has no room for such sizes or settings";
+    let list = format!("# camera 1: a.pgm\n{text}\n# camera 2: d.frame\n{DOCUMENT}");
+    assert_eq!((out(&output), status(&output)), (list, 1));
 }
 
 /// Three cameras that are not alike: a list, an empty one, and one of more corners.
