@@ -117,9 +117,7 @@ pub fn times(repeats: usize, picture: &(String, Picture), largest: usize) {
     let name = &picture.0;
     println!("Medians of {repeats} turns, {NAME}, one thread; picture: {name}. Both ways have the same frames,");
     println!("buffers and shares of the list. The ratio is the median of the turns' own ratios; the last column has the");
-    println!(
-        "fastest arch over the fastest single calls, which other work on the machine moves least."
-    );
+    println!("fastest arch over the fastest single calls.");
     println!();
     println!("| Frame and factor | Cameras | Corners a camera | Arch, ns a working pixel | Single calls | Arch / single calls | Fastest / fastest |");
     println!("|---|---:|---:|---:|---:|---:|---:|");
