@@ -34,8 +34,8 @@ use Rattle.arch.specs.declared.due.Due.the-variants.{Refused}
 use Rattle.arch.specs.Arch.{restAt, dueIn, leftBy, noFrame, archRefusal, archOutcome, archBuffers}
 use Rattle.arch.proofs.Frames.{too-short, past-the-end, lies-whole}
 use Rattle.arch.proofs.Judged.{Takes, takes}
-use Rattle.arch.proofs.Cameras.{SameLengths}
-use Rattle.arch_facts.proofs.Work.{Writes, same-lengths, rooms-same}
+use Rattle.arch.proofs.Cameras.{SameLengths, same-lengths}
+use Rattle.arch_facts.proofs.Work.{Writes, rooms-same}
 use Rattle.arch_facts.proofs.Single.{read-refuses, read-told, read-list}
 use Rattle.arch_facts.proofs.Fold.{fileIn, readIn, fileAt, readAt, drop-lent, share-long}
 use Rattle.arch_facts.proofs.Left.{Accepted, size, toldTo, shareLent, shareLeft, workBefore, single, WholeAt, whole-long, file-is, read-is}

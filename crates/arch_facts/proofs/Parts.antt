@@ -1,14 +1,15 @@
 -- Plain laws of lists: a part, `take size (drop at l)`, and another put in its place; and two buffers whose first entries are written alike.
 -- Assumes nothing.
 use mathlib.Core.Path.{_≡_, refl, sym, ap, _∙_}
-use mathlib.Core.List.{List, [], _∷_, _++_, append-assoc}
-use Prim.Native.Nat.{ℕ, zero, suc, _+_, _-_, _≤_, max}
-use native.Mathlib.Nat.{suc-add, zero-add, max-eq-left, max-eq-right}
+use mathlib.Core.List.{List, _++_, append-assoc}
+use Prim.Native.Nat.{ℕ, _+_, _-_, _≤_, max}
+use native.Mathlib.Nat.{max-eq-left, max-eq-right}
 use native.Mathlib.Decide.{decLe}
 use native.Mathlib.Omega.{arith}
 use lib.ListN.{length, take, drop, take-append-drop}
-use lib.Seq.{length-take-le, take-nil, take-all, take-add, drop-drop, take-at, drop-at, take-append-le}
+use lib.Seq.{length-take-le, take-all, take-add, drop-drop, take-at, drop-at, take-append-le}
 use lib.Seq.{paste, length-paste, drop-paste}
+use Rattle.grid.proofs.Part.{part-taken}
 
 module _ {A : Type 0} where
   -- entries that are the same from a place on are so further on
@@ -16,12 +17,6 @@ module _ {A : Type 0} where
   drop-further n m x y l e =
       let sum : n + (m - n) ≡ m = omega arith in
       rw sum at (sym (drop-drop (m - n) n x) ∙ ap (drop (m - n)) e ∙ drop-drop (m - n) n y)
-
-  -- a part is a part of what is taken
-  part-taken : (n k : ℕ) (l : List A) → take k (drop n l) ≡ drop n (take (n + k) l)
-  part-taken zero k l = rw zero-add
-  part-taken (suc n) k [] = rw (suc-add, take-nil)
-  part-taken (suc n) k (x ∷ xs) = rw suc-add (part-taken n k xs)
 
   -- a part of the first of two lists
   part-before : (at size : ℕ) (x y : List A) → at + size ≤ length x → take size (drop at (x ++ y)) ≡ take size (drop at x)

@@ -75,18 +75,6 @@ module _ (n : ℕ) {b c p q : MapBuffers} where
 
 -- ---- lengths
 
-pub same-lengths : (b : Buffers) → SameLengths b b
-same-lengths b = record {
-  working = refl;
-  row = refl;
-  col = refl;
-  falling = refl;
-  rising = refl;
-  response = refl;
-  scratch = refl;
-  list = refl;
-}
-
 -- with other lists
 pub with-lists : {b c : Buffers} → SameLengths b c → (x y : List Float) → length y ≡ length x
     → SameLengths (record { map = b .map; list = x }) (record { map = c .map; list = y })
