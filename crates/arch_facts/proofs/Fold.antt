@@ -18,10 +18,10 @@ use Rattle.frame_runner.specs.FileAnswer.{outcomeFor, fileOutcome, buffersFor, 
 use Rattle.arch.specs.declared.due.Due.{Due}
 use Rattle.arch.specs.declared.due.Due.the-variants.{Whole, Refused}
 use Rattle.arch.specs.Arch.{dueIn, restAt, cameraOutcome, cameraBuffers, shareOf, lentTo, backFrom, leftBy, told}
-use Rattle.arch.proofs.Cameras.{SameLengths}
+use Rattle.arch.proofs.Cameras.{SameLengths, same-lengths}
 use Rattle.arch.proofs.Shares.{share-in}
 use Rattle.arch_facts.proofs.Parts.{put-long, part-put, drop-put, part-before-put, Wrote}
-use Rattle.arch_facts.proofs.Work.{Writes, writes-none, writes-then, same-lengths, with-lists, lengths-over}
+use Rattle.arch_facts.proofs.Work.{Writes, writes-none, writes-then, with-lists, lengths-over}
 use Rattle.arch_facts.proofs.Single.{area, blurredArea, listed}
 use Rattle.arch_facts.proofs.Single.{read-long, read-told, read-writes}
 

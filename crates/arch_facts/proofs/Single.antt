@@ -28,9 +28,9 @@ use Rattle.radon.proofs.Left.{Accepted, left-is}
 use Rattle.radon.proofs.Demands.{refusal-leaves-all, map-beyond-stays, list-beyond-stays, same-answer, same-map}
 use Rattle.radon.proofs.Demands.{list-is-corners, shorter-list}
 use Rattle.frame_runner.specs.FileAnswer.{outcomeFor, buffersFor}
-use Rattle.arch.proofs.Cameras.{SameLengths}
+use Rattle.arch.proofs.Cameras.{SameLengths, same-lengths}
 use Rattle.arch_facts.proofs.Parts.{Wrote, wrote-none}
-use Rattle.arch_facts.proofs.Work.{Writes, writes-none, inScratch, none-in-scratch, writes-by, same-lengths, rooms-same}
+use Rattle.arch_facts.proofs.Work.{Writes, writes-none, inScratch, none-in-scratch, writes-by, rooms-same}
 
 -- ---- the finder's
 
