@@ -11,10 +11,11 @@ use Rattle.grid.specs.Fill.{filled}
 use Rattle.grid.proofs.Fill.{filled-zero, fill-step}
 use Rattle.params.specs.declared.answers.Outcome.{Outcome}
 use Rattle.radon.specs.Finder.{Buffers}
-use Rattle.arch.specs.Arch.{dueIn, restAt, cameraOutcome, cameraBuffers, lentTo, backFrom, leftBy, told, noFrame}
-use Rattle.arch.specs.Gone.{goneBy}
-use Rattle.arch.proofs.Frames.{next-inside, next-rest}
-use Rattle.arch.proofs.Shares.{share-in}
+use Rattle.arch_plan.specs.Plan.{dueIn, restAt}
+use Rattle.arch.specs.Arch.{cameraOutcome, cameraBuffers, lentTo, backFrom, leftBy, told, noFrame}
+use Rattle.arch_plan.specs.Gone.{goneBy}
+use Rattle.arch_plan.proofs.Frames.{next-inside, next-rest}
+use Rattle.arch_plan.proofs.InList.{share-in}
 
 -- a call changes no length
 pub record SameLengths (b c : Buffers) : Type 0 where

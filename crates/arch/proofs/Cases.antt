@@ -8,9 +8,10 @@ use Rattle.params.specs.declared.answers.Outcome.{Outcome}
 use Rattle.params.specs.Answers.{refused}
 use Rattle.radon.specs.Finder.{Buffers}
 use Rattle.frame_runner.specs.FileAnswer.{fileOutcome, fileBuffers}
-use Rattle.arch.specs.declared.due.Due.{Due}
-use Rattle.arch.specs.declared.due.Due.the-variants.{Whole, Refused}
-use Rattle.arch.specs.Arch.{dueIn, cameraOutcome, cameraBuffers}
+use Rattle.arch_plan.specs.declared.due.Due.{Due}
+use Rattle.arch_plan.specs.declared.due.Due.the-variants.{Whole, Refused}
+use Rattle.arch_plan.specs.Plan.{dueIn}
+use Rattle.arch.specs.Arch.{cameraOutcome, cameraBuffers}
 
 -- d is what is due
 module _ (rest : List ℕ) (b : Buffers) {d : Due} (is : d ≡ dueIn rest) where

@@ -1,6 +1,4 @@
--- Laws of the walk along the frames and of the loop over cameras, which the proofs of the functions cite.
-pub mod Frames
-pub mod Shares
+-- Steps of the proofs: one camera, the loop over cameras, and the call.
 pub mod Cases
-pub mod Judged
 pub mod Cameras
+pub mod Call

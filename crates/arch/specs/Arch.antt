@@ -1,44 +1,21 @@
--- Document 02, ticket 2, "All cameras of an arch at once": where each camera's frame stands, what the camera is told, and what the call leaves in the
--- lent buffers. Of finding it says nothing: what a camera is told and leaves is what a single call does, `fileOutcome` and `fileBuffers`.
+-- Document 02, ticket 2, "All cameras of an arch at once": what each camera is told, and what the call leaves in the lent buffers. Of finding it says
+-- nothing: what a camera is told and leaves is what a single call does, `fileOutcome` and `fileBuffers`. Where frames stand is in arch_plan/specs/Plan.
 use mathlib.Core.Bool.{cond}
-use mathlib.Core.List.{List, [], _++_}
-use Prim.Native.Nat.{ℕ, zero, suc, _+_, _*_, _/_}
-use lib.Dec.{ltb}
+use mathlib.Core.List.{List, _++_}
+use Prim.Native.Nat.{ℕ, zero, suc, _*_}
 use lib.Ieee.{Float}
 use lib.ListN.{length, take, drop, replicate}
 use Rattle.grid.specs.Fill.{filled}
-use Rattle.big_endian.specs.BigEndian.{wordAt}
-use Rattle.params.specs.declared.answers.Answer.{Answer}
-use Rattle.params.specs.declared.answers.Answer.the-variants.{Complete, FileTooShort, StatedLength, Cameras}
+use Rattle.params.specs.declared.answers.Answer.the-variants.{Complete, FileTooShort, Cameras}
 use Rattle.params.specs.declared.answers.Outcome.{Outcome}
 use Rattle.params.specs.Answers.{refused}
 use Rattle.response.specs.Map.{accepts}
-use Rattle.detect.specs.Corners.{stride}
 use Rattle.radon.specs.Finder.{Buffers}
 use Rattle.frame_runner.specs.FileAnswer.{fileOutcome, fileBuffers}
 use Rattle.arch.specs.declared.ArchOutcome.{ArchOutcome}
-use Rattle.arch.specs.declared.due.Due.{Due}
-use Rattle.arch.specs.declared.due.Due.the-variants.{Whole, Refused}
-
--- ---- "that many frame files laid end to end in one slice": `rest` is what is left of the slice from where a camera's frame begins
-
--- "Where that length runs past the end, that frame answers 13, whatever else is wrong with it; with under five bytes left it answers 11". A frame
--- that lies whole in the slice has the five bytes and its stated length
-unfoldable pub dueIn : List ℕ → Due
-dueIn rest =
-    cond (ltb (length rest) 5) (Refused FileTooShort)
-    (cond (ltb (length rest) (5 + wordAt rest 1)) (Refused StatedLength)
-    (Whole (5 + wordAt rest 1)))
-
--- "the next begins after its stated length", whatever the frame is answered; "either way the later ones answer 11": nothing is left for them
-abbrev pub behind : List ℕ → Due → List ℕ
-behind rest (Whole n) = drop n rest
-behind rest (Refused answer) = []
-
--- what is left for camera i, counted from 0
-unfoldable pub restAt : List ℕ → ℕ → List ℕ
-restAt frames zero = frames
-restAt frames (suc i) = behind (restAt frames i) (dueIn (restAt frames i))
+use Rattle.arch_plan.specs.declared.due.Due.{Due}
+use Rattle.arch_plan.specs.declared.due.Due.the-variants.{Whole, Refused}
+use Rattle.arch_plan.specs.Plan.{dueIn, restAt, shareSize, archRefusal}
 
 -- ---- one camera, over what it is lent
 
@@ -53,10 +30,6 @@ cameraBuffers rest (Whole n) b = fileBuffers n (take n rest) b
 cameraBuffers rest (Refused answer) b = b
 
 -- ---- "one list in which each frame gets an equal share of whole corners, the remainder unused"
-
--- how many numbers a share has
-abbrev pub shareSize : ℕ → ℕ → ℕ
-shareSize cameras numbers = stride * (numbers / stride / cameras)
 
 -- share i, with `size` numbers
 abbrev pub shareOf : ℕ → ℕ → List Float → List Float
@@ -84,14 +57,6 @@ unfoldable pub told : List ℕ → ℕ → Buffers → ℕ → Outcome
 told frames size b i = cameraOutcome (restAt frames i) (dueIn (restAt frames i)) (lentTo size i (leftBy frames size b i))
 
 -- ---- the call
-
--- "21, a camera count not 2 to 8 or a list too short for one corner a camera", of which `numbers` is the length
-unfoldable pub archRefusal : ℕ → ℕ → Answer
-archRefusal cameras numbers =
-    cond (ltb cameras 2) Cameras
-    (cond (ltb 8 cameras) Cameras
-    (cond (ltb (numbers / stride) cameras) Cameras
-    Complete))
 
 -- how an entry beyond the camera count reads: as that of a camera for which nothing is left
 abbrev pub noFrame : Outcome

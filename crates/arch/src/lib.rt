@@ -1,8 +1,10 @@
 // All cameras of an arch in one call: their frame files stand end to end in one slice, the work buffers serve one after the other, and each camera
 // has an equal share of the list.
-use due::Due;
-use due::due_in;
-use due::gone_in;
+use arch_plan::Due;
+use arch_plan::due_in;
+use arch_plan::gone_in;
+use arch_plan::judge_arch;
+use arch_plan::share_size;
 use frame_runner::run_frame_file;
 use params::Answer;
 use params::Outcome;
@@ -11,45 +13,13 @@ ghost use Prim.Native.Nat.{_*_, _≤_};
 ghost use lib.ListN.{length, replicate};
 ghost use Rattle.grid.specs.Fill.{filled};
 ghost use Rattle.radon.specs.Finder.{lent};
-ghost use Rattle.arch.specs.Arch.{archRefusal, shareSize, dueIn, cameraOutcome, cameraBuffers, told, noFrame, leftBy, archOutcome, archBuffers};
-
-mod due;
+ghost use Rattle.arch_plan.specs.Plan.{dueIn};
+ghost use Rattle.arch.specs.Arch.{cameraOutcome, cameraBuffers, told, noFrame, leftBy, archOutcome, archBuffers};
 
 // What a call for an arch reports: its own answer, 0 or 21, and what each camera is told.
 pub struct ArchOutcome {
     pub answer: Answer,
     pub cameras: [Outcome; 8],
-}
-
-const FEWEST: usize = 2;
-
-const MOST: usize = 8;
-
-// The numbers of a corner: x, y, strength.
-const STRIDE: usize = 3;
-
-// Answer 21: `room` is the list's length.
-fn judge_arch(cameras: usize, room: usize) -> Answer
-    ensures { λ r. ⌜ r ≡ archRefusal cameras room ⌝ }
-{
-    if cameras < FEWEST {
-        return Answer::Cameras;
-    }
-    if cameras > MOST {
-        return Answer::Cameras;
-    }
-    if room / STRIDE < cameras {
-        return Answer::Cameras;
-    }
-    Answer::Complete
-}
-
-// How many numbers of the list each camera has: those of whole corners.
-fn share_size(cameras: usize, room: usize) -> usize
-    requires { ⌜ 1 ≤ cameras ⌝ }
-    ensures { λ r. ⌜ (r ≡ shareSize cameras room) × (cameras * r ≤ room) ⌝ }
-{
-    STRIDE * (room / STRIDE / cameras)
 }
 
 // The camera whose frame begins where `rest` does: answered as a single call would, with its share as the list; or not whole, and refused.

@@ -29,11 +29,12 @@ use Rattle.radon.proofs.Lists.{roomIn}
 use Rattle.radon.proofs.Demands.{pixels, higher-setting, shorter-list, raised-frame-same-map}
 use Rattle.frame_runner.specs.FileAnswer.{outcomeFor, fileOutcome, buffersFor, fileBuffers}
 use Rattle.arch.specs.declared.ArchOutcome.{ArchOutcome}
-use Rattle.arch.specs.declared.due.Due.{Due}
-use Rattle.arch.specs.declared.due.Due.the-variants.{Refused}
-use Rattle.arch.specs.Arch.{restAt, dueIn, leftBy, noFrame, archRefusal, archOutcome, archBuffers}
-use Rattle.arch.proofs.Frames.{too-short, past-the-end, lies-whole}
-use Rattle.arch.proofs.Judged.{Takes, takes}
+use Rattle.arch_plan.specs.declared.due.Due.{Due}
+use Rattle.arch_plan.specs.declared.due.Due.the-variants.{Refused}
+use Rattle.arch_plan.specs.Plan.{restAt, dueIn, archRefusal}
+use Rattle.arch.specs.Arch.{leftBy, noFrame, archOutcome, archBuffers}
+use Rattle.arch_plan.proofs.Frames.{too-short, past-the-end, lies-whole}
+use Rattle.arch_plan.proofs.Judged.{Takes, takes}
 use Rattle.arch.proofs.Cameras.{SameLengths, same-lengths}
 use Rattle.arch_facts.proofs.Work.{Writes, rooms-same}
 use Rattle.arch_facts.proofs.Single.{read-refuses, read-told, read-list}

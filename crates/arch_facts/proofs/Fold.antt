@@ -15,11 +15,12 @@ use Rattle.frame.specs.declared.Reading.the-variants as reading
 use Rattle.frame.specs.FrameFile.{readOf}
 use Rattle.radon.specs.Finder.{Buffers}
 use Rattle.frame_runner.specs.FileAnswer.{outcomeFor, fileOutcome, buffersFor, fileBuffers}
-use Rattle.arch.specs.declared.due.Due.{Due}
-use Rattle.arch.specs.declared.due.Due.the-variants.{Whole, Refused}
-use Rattle.arch.specs.Arch.{dueIn, restAt, cameraOutcome, cameraBuffers, shareOf, lentTo, backFrom, leftBy, told}
+use Rattle.arch_plan.specs.declared.due.Due.{Due}
+use Rattle.arch_plan.specs.declared.due.Due.the-variants.{Whole, Refused}
+use Rattle.arch_plan.specs.Plan.{dueIn, restAt}
+use Rattle.arch.specs.Arch.{cameraOutcome, cameraBuffers, shareOf, lentTo, backFrom, leftBy, told}
 use Rattle.arch.proofs.Cameras.{SameLengths, same-lengths}
-use Rattle.arch.proofs.Shares.{share-in}
+use Rattle.arch_plan.proofs.InList.{share-in}
 use Rattle.arch_facts.proofs.Parts.{put-long, part-put, drop-put, part-before-put, Wrote}
 use Rattle.arch_facts.proofs.Work.{Writes, writes-none, writes-then, with-lists, lengths-over}
 use Rattle.arch_facts.proofs.Single.{area, blurredArea, listed}

@@ -12,10 +12,10 @@ use Rattle.grid.proofs.Entries.{all-at}
 use Rattle.big_endian.specs.BigEndian.{wordAt}
 use Rattle.params.specs.declared.answers.Answer.{Answer}
 use Rattle.params.specs.declared.answers.Answer.the-variants.{FileTooShort}
-use Rattle.arch.specs.declared.due.Due.{Due}
-use Rattle.arch.specs.declared.due.Due.the-variants.{Whole, Refused}
-use Rattle.arch.specs.Arch.{dueIn, behind, restAt}
-use Rattle.arch.proofs.Frames.{lies-whole}
+use Rattle.arch_plan.specs.declared.due.Due.{Due}
+use Rattle.arch_plan.specs.declared.due.Due.the-variants.{Whole, Refused}
+use Rattle.arch_plan.specs.Plan.{dueIn, behind, restAt}
+use Rattle.arch_plan.proofs.Frames.{lies-whole}
 use Rattle.arch_facts.proofs.Left.{WholeAt}
 
 -- ---- the next frame

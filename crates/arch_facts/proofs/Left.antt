@@ -21,12 +21,13 @@ use Rattle.frame.specs.FrameFile.{readOf}
 use Rattle.radon.specs.Finder.{Buffers}
 use Rattle.frame_runner.specs.FileAnswer.{outcomeFor, buffersFor}
 use Rattle.arch.specs.declared.ArchOutcome.{ArchOutcome}
-use Rattle.arch.specs.declared.due.Due.the-variants.{Whole}
-use Rattle.arch.specs.Arch.{dueIn, restAt, shareSize, shareOf, leftBy, told, archRefusal, noFrame, archOutcome, archBuffers}
-use Rattle.arch.proofs.Frames.{whole-in}
-use Rattle.arch.proofs.Judged.{takes}
+use Rattle.arch_plan.specs.declared.due.Due.the-variants.{Whole}
+use Rattle.arch_plan.specs.Plan.{dueIn, restAt, shareSize, archRefusal}
+use Rattle.arch.specs.Arch.{shareOf, leftBy, told, noFrame, archOutcome, archBuffers}
+use Rattle.arch_plan.proofs.Frames.{whole-in}
+use Rattle.arch_plan.proofs.Judged.{takes}
 use Rattle.arch.proofs.Cameras.{SameLengths}
-use Rattle.arch.proofs.Shares.{shares-in}
+use Rattle.arch_plan.proofs.InList.{shares-in}
 use Rattle.arch_facts.proofs.Parts.{Wrote}
 use Rattle.arch_facts.proofs.Work.{Writes, with-lists}
 use Rattle.arch_facts.proofs.Single.{area, blurredArea, listed}

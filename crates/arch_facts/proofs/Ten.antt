@@ -24,8 +24,8 @@ use Rattle.response.specs.Map.{roomOf}
 use Rattle.radon.specs.Finder.{Buffers, answered, outcomeOf}
 use Rattle.radon.proofs.Left.{is-true}
 use Rattle.frame_runner.specs.FileAnswer.{outcomeFor}
-use Rattle.arch.specs.declared.due.Due.the-variants.{Whole, Refused}
-use Rattle.arch.specs.Arch.{dueIn}
+use Rattle.arch_plan.specs.declared.due.Due.the-variants.{Whole, Refused}
+use Rattle.arch_plan.specs.Plan.{dueIn}
 use Rattle.arch_facts.proofs.Fold.{readIn}
 
 -- ---- the finder's answers end at 9

@@ -1,10 +1,11 @@
 -- `arch::run_arch` meets its contract: refused by 21, or camera after camera. Assumes nothing.
 use denote.Ref.{now}
-use native.Mathlib.Omega.{arith}
 use borrow.Author.Needs.{needs}
 use lib.ListN.{length}
 use Rattle.radon.specs.Finder.{Buffers, lent}
-use Rattle.arch.proofs.Judged.{Takes, taken-by, when-refused, when-taken}
+use Rattle.arch_plan.proofs.InList.{shares-in}
+use Rattle.arch_plan.proofs.Judged.{Takes}
+use Rattle.arch.proofs.Call.{taken-by, when-refused, when-taken}
 use Rattle.arch.proofs.run_arch.Statement.{statement}
 use Rattle.arch.proofs.run_arch.Tie as tie
 
@@ -52,12 +53,13 @@ returns c =
     (c .before .if1 .taken) (c .refusal .ensures)
 
 share-size-requires : tie.Need-share-size-requires
-share-size-requires c κs = omega (arith, not-refused c)
+share-size-requires c κs = search needs
 
 run-cameras-requires : tie.Need-run-cameras-requires
 run-cameras-requires c κs =
     let s = c .before .before .before .before .before .before .before .before in
-    (not-refused (s .before) .eight, s .share-size .ensures .1)
+    let o = start (s .before .before .before) .args in
+    (not-refused (s .before) .eight, rw (s .share-size .ensures) (shares-in 3 (o .cameras) (length (now (o .list)))))
 
 same-length : tie.Need-same-length
 same-length c = search needs
@@ -91,7 +93,7 @@ returns-2 c =
     let j = z .before .before in
     let o = start j .args in
     when-taken (o .cameras) (now (o .frames)) (given j) (j .judge-arch .ensures) (z .before .number .ensures)
-    (z .if1 .left) (s .share-size .ensures .0) (r .run-cameras .ensures)
+    (z .if1 .left) (s .share-size .ensures) (r .run-cameras .ensures)
 
 pub run-arch-spec : {M : Type 1} → statement M
 run-arch-spec =

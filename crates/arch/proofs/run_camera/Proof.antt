@@ -4,7 +4,7 @@ use denote.Ref.{now}
 use borrow.Author.Needs.{needs}
 use lib.Seq.{length-take-le}
 use Rattle.radon.specs.Finder.{Buffers, lent}
-use Rattle.arch.proofs.Frames.{whole-in}
+use Rattle.arch_plan.proofs.Frames.{whole-in}
 use Rattle.arch.proofs.Cases.{when-cut, when-whole}
 use Rattle.arch.proofs.run_camera.Statement.{statement}
 use Rattle.arch.proofs.run_camera.Tie as tie

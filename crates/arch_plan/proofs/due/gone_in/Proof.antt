@@ -1,12 +1,12 @@
--- `arch::due::gone_in` meets its contract, by what is due. Assumes nothing.
+-- `arch_plan::due::gone_in` meets its contract, by what is due. Assumes nothing.
 use mathlib.Core.Path.{ap, _∙_}
 use borrow.Author.Needs.{needs}
 use lib.ListN.{length}
 use denote.Ref.{now}
-use Rattle.arch.specs.declared.due.Due.{Due}
-use Rattle.arch.specs.Gone.{goneBy}
-use Rattle.arch.proofs.due.gone_in.Statement.{statement}
-use Rattle.arch.proofs.due.gone_in.Tie as tie
+use Rattle.arch_plan.specs.declared.due.Due.{Due}
+use Rattle.arch_plan.specs.Gone.{goneBy}
+use Rattle.arch_plan.proofs.due.gone_in.Statement.{statement}
+use Rattle.arch_plan.proofs.due.gone_in.Tie as tie
 
 due-in-requires : tie.Need-due-in-requires
 due-in-requires c κs = search needs

@@ -1,7 +1,7 @@
 -- How many of the bytes that are left are gone behind a camera's frame.
 use Prim.Native.Nat.{ℕ}
-use Rattle.arch.specs.declared.due.Due.{Due}
-use Rattle.arch.specs.declared.due.Due.the-variants.{Whole, Refused}
+use Rattle.arch_plan.specs.declared.due.Due.{Due}
+use Rattle.arch_plan.specs.declared.due.Due.the-variants.{Whole, Refused}
 
 -- all, where it is not whole
 abbrev pub goneBy : Due → ℕ → ℕ

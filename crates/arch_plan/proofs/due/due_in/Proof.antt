@@ -1,9 +1,9 @@
--- `arch::due::due_in` meets its contract: the tests in their order. Assumes nothing.
+-- `arch_plan::due::due_in` meets its contract: the tests in their order. Assumes nothing.
 use denote.Ref.{now}
 use borrow.Author.Needs.{needs}
-use Rattle.arch.proofs.Frames.{too-short, past-the-end, lies-whole}
-use Rattle.arch.proofs.due.due_in.Statement.{statement}
-use Rattle.arch.proofs.due.due_in.Tie as tie
+use Rattle.arch_plan.proofs.Frames.{too-short, past-the-end, lies-whole}
+use Rattle.arch_plan.proofs.due.due_in.Statement.{statement}
+use Rattle.arch_plan.proofs.due.due_in.Tie as tie
 
 stated-in-requires : tie.Need-stated-in-requires
 stated-in-requires c κs = search needs

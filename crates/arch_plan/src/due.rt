@@ -4,8 +4,8 @@ use params::Answer;
 ghost use mathlib.Core.Path.{_≡_};
 ghost use lib.ListN.{length};
 ghost use Rattle.big_endian.specs.BigEndian.{wordAt};
-ghost use Rattle.arch.specs.Arch.{dueIn};
-ghost use Rattle.arch.specs.Gone.{goneBy};
+ghost use Rattle.arch_plan.specs.Plan.{dueIn};
+ghost use Rattle.arch_plan.specs.Gone.{goneBy};
 
 // A whole frame file of so many bytes, or the refusal of one that is not whole.
 pub enum Due {

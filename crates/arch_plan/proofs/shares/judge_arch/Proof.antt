@@ -1,8 +1,8 @@
--- `arch::judge_arch` meets its contract: every answer is walked to along the chain. Assumes nothing.
+-- `arch_plan::shares::judge_arch` meets its contract: every answer is walked to along the chain. Assumes nothing.
 use Rattle.params.proofs.Chain.{chain}
-use Rattle.arch.specs.Arch.{archRefusal}
-use Rattle.arch.proofs.judge_arch.Statement.{statement}
-use Rattle.arch.proofs.judge_arch.Tie as tie
+use Rattle.arch_plan.specs.Plan.{archRefusal}
+use Rattle.arch_plan.proofs.shares.judge_arch.Statement.{statement}
+use Rattle.arch_plan.proofs.shares.judge_arch.Tie as tie
 
 returns : tie.Need-returns
 unfolding archRefusal

@@ -12,10 +12,10 @@ use lib.Seq.{drop-drop, drop-length}
 use Rattle.big_endian.specs.BigEndian.{wordAt}
 use Rattle.params.specs.declared.answers.Answer.{Answer}
 use Rattle.params.specs.declared.answers.Answer.the-variants.{FileTooShort, StatedLength}
-use Rattle.arch.specs.declared.due.Due.{Due}
-use Rattle.arch.specs.declared.due.Due.the-variants.{Whole, Refused}
-use Rattle.arch.specs.Arch.{dueIn, behind, restAt}
-use Rattle.arch.specs.Gone.{goneBy}
+use Rattle.arch_plan.specs.declared.due.Due.{Due}
+use Rattle.arch_plan.specs.declared.due.Due.the-variants.{Whole, Refused}
+use Rattle.arch_plan.specs.Plan.{dueIn, behind, restAt}
+use Rattle.arch_plan.specs.Gone.{goneBy}
 
 module _ (rest : List ℕ) where
   pub too-short : length rest < 5 → Refused FileTooShort ≡ dueIn rest

@@ -1,0 +1,3 @@
+-- What is known of an arch before anything is found.
+pub mod Plan
+pub mod Gone
