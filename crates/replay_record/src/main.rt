@@ -1,7 +1,6 @@
 // Replays corner records, read and written, and compares with what tools/record_vectors.py lists: the answer, the count and the sides of each call,
 // what it wrote, to the bit, and that every other entry of the lent buffer is as it was.
 use libc::STDIN_FILENO;
-use libc::STDOUT_FILENO;
 use params::Outcome;
 use replay::Walk;
 
@@ -62,18 +61,8 @@ fn report(s: &[u8], walk: Walk, reads: &[usize; 32], writes: &[usize; 32]) {
 
 fn tell_calls(name: &[u8], calls: &[usize; 32]) {
     tell::say(name, calls[ALL]);
-    tell_answer(0, calls[0]);
-    tell_answer(16, calls[16]);
-    tell_answer(17, calls[17]);
-    tell_answer(18, calls[18]);
-    tell_answer(19, calls[19]);
-    tell_answer(20, calls[20]);
-}
-
-fn tell_answer(answer: u64, n: usize) {
-    io::write_all(STDOUT_FILENO, b"of these answered ");
-    io::print_decimal(STDOUT_FILENO, answer);
-    tell::say(b"", n);
+    tell::each(b"of these answered ", calls, 0, 1);
+    tell::each(b"of these answered ", calls, 16, 21);
 }
 
 // What was compared, and the place behind it: how many things disagree, what the vector is, and what it was answered.

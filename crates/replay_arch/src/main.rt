@@ -1,0 +1,314 @@
+// Replays arches and compares with what tools/arch_vectors.py lists; and each camera whose frame lies whole with a single call of the program's
+// function: answer, count and sides, every number of the list, to the bit, and that each work entry which no frame reaches is as it was.
+use arch::ArchOutcome;
+use libc::STDIN_FILENO;
+use params::Outcome;
+use replay::Compared;
+use replay::Walk;
+
+// Entries of each lent work buffer, the bytes of that many words, and the longest file that a single call takes.
+const ROOM: usize = 2304;
+
+const LIMIT: usize = 2324;
+
+// Numbers of the list, of which as many are lent as a record says, and the most that a share has.
+const NUMBERS: usize = 1024;
+
+const SHARE: usize = 128;
+
+// What each byte of the work buffers is before a call; and the patterns of the list's numbers, from the first on, all different.
+const OLD: u8 = 165;
+
+const OLD_WORD: u32 = 0xa5a5_a5a5;
+
+const OLD_NUMBER: u64 = 0xa5a5_0000;
+
+// Where cameras are counted, behind those of each answer: all, and those held to a single call.
+const ALL: u64 = 30;
+
+const SINGLE: u64 = 31;
+
+// Where arches are counted that were refused, behind those of each camera count.
+const REFUSED: u64 = 21;
+
+fn main() {
+    let mut input = vectors::room();
+    let got = io::read_full(STDIN_FILENO, &mut input);
+    replayed(&input[..got]);
+}
+
+// Every arch; then what was found.
+fn replayed(s: &[u8]) {
+    let mut walk = replay::start(s);
+    let mut values: usize = 0;
+    let mut arches = [0usize; 32];
+    let mut cameras = [0usize; 32];
+    while replay::more(s, walk) {
+        let c = record(s, walk.next, &mut arches, &mut cameras);
+        walk = replay::after(walk, c.next, c.wrong);
+        values = vectors::plus(values, c.values);
+    }
+    report(s, walk, values, &arches, &cameras);
+}
+
+fn report(s: &[u8], walk: Walk, values: usize, arches: &[usize; 32], cameras: &[usize; 32]) {
+    tell::head(s, walk);
+    tell::say(b"values compared", values);
+    tell::each(b"arches of cameras ", arches, 2, 9);
+    tell::each(b"arches answered ", arches, 21, 22);
+    tell::say(b"cameras", cameras[30]);
+    tell::each(b"of these answered ", cameras, 0, 15);
+    tell::say(b"of these held to a single call", cameras[31]);
+}
+
+// One more there.
+fn count(many: &mut [usize; 32], at: u64) {
+    let i = vectors::capped(at, 31);
+    many[i] = vectors::plus(many[i], 1);
+}
+
+// A word of a record, so many bytes behind a place.
+fn field(s: &[u8], at: usize, n: usize) -> u64 {
+    vectors::word(s, vectors::skip(s, at, n))
+}
+
+// A record: camera count, length of the list, frames, and what is due.
+fn record(
+    s: &[u8],
+    at: usize,
+    arches: &mut [usize; 32],
+    cameras: &mut [usize; 32],
+) -> Compared {
+    let given = vectors::skip(s, at, 8);
+    let many = vectors::word(s, at);
+    let room = vectors::capped(field(s, at, 4), NUMBERS);
+    let frames = vectors::sized(s, given);
+    let due = vectors::behind(s, given);
+    let mut list = old_numbers();
+    let mut working = [OLD; 2304];
+    let mut row = [OLD_WORD; 2304];
+    let mut col = [OLD_WORD; 2304];
+    let mut falling = [OLD_WORD; 2304];
+    let mut rising = [OLD_WORD; 2304];
+    let mut response = [old_float(); 2304];
+    let mut scratch = [old_float(); 2304];
+    let outcome = arch::run_arch(
+        many as usize,
+        frames,
+        &mut working,
+        &mut row,
+        &mut col,
+        &mut falling,
+        &mut rising,
+        &mut response,
+        &mut scratch,
+        &mut list[0..room],
+    );
+    let reached = vectors::capped(field(s, due, 8), ROOM);
+    let kept = work_kept(
+        &working, &row, &col, &falling, &rising, &response, &scratch, reached,
+    );
+    count_arch(outcome, many, arches);
+    count_cameras(outcome, many, cameras);
+    replay::then(kept, against(outcome, list, frames, s, due, cameras))
+}
+
+fn old_float() -> f32 {
+    vectors::float(OLD_WORD as u64)
+}
+
+// What the list holds before a call.
+fn old_numbers() -> [f32; 1024] {
+    let mut list = [0.0f32; 1024];
+    let mut i: usize = 0;
+    while i < 1024 {
+        list[i] = vectors::float(OLD_NUMBER + i as u64);
+        i += 1;
+    }
+    list
+}
+
+// By its camera count, or as refused.
+fn count_arch(outcome: ArchOutcome, many: u64, arches: &mut [usize; 32]) {
+    let answer = outcome.answer;
+    if answer.number() == 0 {
+        count(arches, many);
+    } else {
+        count(arches, REFUSED);
+    }
+}
+
+// By its answer, each camera of an arch that was not refused.
+fn count_cameras(outcome: ArchOutcome, many: u64, cameras: &mut [usize; 32]) {
+    let own = outcome.answer;
+    if own.number() != 0 {
+        return;
+    }
+    let told = outcome.cameras;
+    let mut i: usize = 0;
+    while i < vectors::capped(many, 8) {
+        let one = told[i];
+        let answer = one.answer;
+        count(cameras, answer.number() as u64);
+        count(cameras, ALL);
+        i += 1;
+    }
+}
+
+// The work buffers from an entry on, which no frame reaches.
+fn work_kept(
+    working: &[u8; 2304],
+    row: &[u32; 2304],
+    col: &[u32; 2304],
+    falling: &[u32; 2304],
+    rising: &[u32; 2304],
+    response: &[f32; 2304],
+    scratch: &[f32; 2304],
+    from: usize,
+) -> Compared {
+    let old = [OLD; 9216];
+    let n = sizes::less(ROOM, from);
+    let c = replay::bytes(&old, 0, &working[from..], n);
+    let c = replay::then(c, replay::words(&old, 0, &row[from..], n));
+    let c = replay::then(c, replay::words(&old, 0, &col[from..], n));
+    let c = replay::then(c, replay::words(&old, 0, &falling[from..], n));
+    let c = replay::then(c, replay::words(&old, 0, &rising[from..], n));
+    let c = replay::then(c, replay::floats(&old, 0, &response[from..], n));
+    replay::then(c, replay::floats(&old, 0, &scratch[from..], n))
+}
+
+// The arch's own answer, its cameras, and its list against a second one into which single calls have written.
+fn against(
+    outcome: ArchOutcome,
+    list: [f32; 1024],
+    frames: &[u8],
+    s: &[u8],
+    due: usize,
+    cameras: &mut [usize; 32],
+) -> Compared {
+    let mut single = old_numbers();
+    let c = own(outcome, s, due);
+    let c = replay::then(
+        c,
+        each_camera(outcome, frames, s, due, &mut single, cameras),
+    );
+    replay::then(numbers(&list, &single), c)
+}
+
+fn own(outcome: ArchOutcome, s: &[u8], due: usize) -> Compared {
+    let answer = outcome.answer;
+    Compared {
+        next: due,
+        wrong: vectors::differ(answer.number() as u64, vectors::word(s, due)),
+        values: 1,
+    }
+}
+
+// All numbers of two lists.
+fn numbers(list: &[f32], single: &[f32]) -> Compared {
+    let mut wrong: usize = 0;
+    let mut i: usize = 0;
+    while i < NUMBERS {
+        wrong = vectors::plus(
+            wrong,
+            vectors::differ(vectors::float_at(list, i), vectors::float_at(single, i)),
+        );
+        i += 1;
+    }
+    Compared {
+        next: 0,
+        wrong,
+        values: NUMBERS,
+    }
+}
+
+// Eight cameras, of which those beyond the count are due too, each with its share of the second list.
+fn each_camera(
+    outcome: ArchOutcome,
+    frames: &[u8],
+    s: &[u8],
+    due: usize,
+    single: &mut [f32; 1024],
+    cameras: &mut [usize; 32],
+) -> Compared {
+    let told = outcome.cameras;
+    let size = vectors::capped(field(s, due, 4), SHARE);
+    let mut all = Compared {
+        next: vectors::skip(s, due, 12),
+        wrong: 0,
+        values: 0,
+    };
+    let mut a: usize = 0;
+    let mut i: usize = 0;
+    while i < 8 {
+        let e = a + size;
+        let c = camera(told[i], frames, s, all.next, &mut single[a..e], cameras);
+        all = replay::then(all, c);
+        a = e;
+        i += 1;
+    }
+    all
+}
+
+// A camera against what is listed and, where its frame lies whole and is not too long for that, against a single call with its share.
+fn camera(
+    told: Outcome,
+    frames: &[u8],
+    s: &[u8],
+    at: usize,
+    share: &mut [f32],
+    cameras: &mut [usize; 32],
+) -> Compared {
+    let c = listed(told, s, vectors::skip(s, at, 8));
+    let begin = vectors::word(s, at) as usize;
+    let end = vectors::skip(frames, begin, field(s, at, 4) as usize);
+    let file = vectors::part(frames, begin, end);
+    if file.len() == 0 || file.len() > LIMIT {
+        return c;
+    }
+    count(cameras, SINGLE);
+    let single = program::run_with_room(file, share);
+    replay::then(same(told, single), c)
+}
+
+// The answer, which for an accepted frame is listed as 0, and the sides; with a refusal no corners.
+fn listed(told: Outcome, s: &[u8], at: usize) -> Compared {
+    let answer = told.answer;
+    let number = answer.number() as u64;
+    let sides = vectors::plus(
+        vectors::differ(told.w as u64, field(s, at, 4)),
+        vectors::differ(told.h as u64, field(s, at, 8)),
+    );
+    let head = if number <= 1 {
+        vectors::differ(0, vectors::word(s, at))
+    } else {
+        vectors::plus(
+            vectors::differ(number, vectors::word(s, at)),
+            vectors::differ(told.count as u64, 0),
+        )
+    };
+    Compared {
+        next: vectors::skip(s, at, 12),
+        wrong: vectors::plus(head, sides),
+        values: 4,
+    }
+}
+
+// Two outcomes.
+fn same(told: Outcome, single: Outcome) -> Compared {
+    let a = told.answer;
+    let b = single.answer;
+    let head = vectors::plus(
+        vectors::differ(a.number() as u64, b.number() as u64),
+        vectors::differ(told.count as u64, single.count as u64),
+    );
+    let sides = vectors::plus(
+        vectors::differ(told.w as u64, single.w as u64),
+        vectors::differ(told.h as u64, single.h as u64),
+    );
+    Compared {
+        next: 0,
+        wrong: vectors::plus(head, sides),
+        values: 4,
+    }
+}
