@@ -27,8 +27,8 @@ module _ (rest : List ℕ) where
     pub past-the-end : length rest - 5 < n → Refused StatedLength ≡ dueIn rest
     unfolding dueIn
     past-the-end h =
-        let past : length rest < 5 + wordAt rest 1 = rw is at (omega arith) in
-        rw (le-ltb (length rest) 5 five, lt-ltb (length rest) (5 + wordAt rest 1) past)
+        let past : length rest < 5 + n = omega arith in
+        rw (le-ltb (length rest) 5 five, ← is, lt-ltb (length rest) (5 + n) past)
 
     pub lies-whole : n ≤ length rest - 5 → Whole (5 + n) ≡ dueIn rest
     unfolding dueIn
@@ -59,7 +59,7 @@ module _ (rest : List ℕ) where
   behind-it (Refused a) = drop-length rest
 
 -- a turn: from where camera i's frame is due to where the next one's is
-module _ (frames : List ℕ) {at i n : ℕ} (inside : at ≤ length frames) (rest : drop at frames ≡ restAt frames i)
+module _ (frames : List ℕ) (i : ℕ) {at n : ℕ} (inside : at ≤ length frames) (rest : drop at frames ≡ restAt frames i)
     (gone : n ≡ takenBy (drop at frames) (dueIn (drop at frames))) where
   pub next-inside : at + n ≤ length frames
   next-inside = omega (arith, taken-in (drop at frames) _ refl, length-drop at frames)

@@ -3,7 +3,7 @@
 use mathlib.Core.Bool.{cond}
 use mathlib.Core.List.{List, [], _++_}
 use Prim.Native.Nat.{ℕ, zero, suc, _+_, _*_, _/_}
-use lib.Dec.{ltb, eqb}
+use lib.Dec.{ltb}
 use lib.Ieee.{Float}
 use lib.ListN.{length, take, drop, replicate}
 use Rattle.grid.specs.Fill.{filled}
@@ -11,7 +11,7 @@ use Rattle.big_endian.specs.BigEndian.{wordAt}
 use Rattle.params.specs.declared.answers.Answer.{Answer}
 use Rattle.params.specs.declared.answers.Answer.the-variants.{Complete, FileTooShort, StatedLength, Cameras}
 use Rattle.params.specs.declared.answers.Outcome.{Outcome}
-use Rattle.params.specs.Answers.{numberOf, refused}
+use Rattle.params.specs.Answers.{refused}
 use Rattle.response.specs.Map.{accepts}
 use Rattle.detect.specs.Corners.{stride}
 use Rattle.radon.specs.Finder.{Buffers}

@@ -10,7 +10,6 @@ ghost use mathlib.Core.Path.{_≡_};
 ghost use Prim.Native.Nat.{_*_, _≤_};
 ghost use lib.ListN.{length, replicate};
 ghost use Rattle.grid.specs.Fill.{filled};
-ghost use Rattle.params.specs.Answers.{refused};
 ghost use Rattle.radon.specs.Finder.{lent};
 ghost use Rattle.arch.specs.Arch.{archRefusal, shareSize, dueIn, cameraOutcome, cameraBuffers, told, noFrame, leftBy, archOutcome, archBuffers};
 
@@ -47,7 +46,7 @@ fn judge_arch(cameras: usize, room: usize) -> Answer
 
 // How many numbers of the list each camera has: those of whole corners.
 fn share_size(cameras: usize, room: usize) -> usize
-    requires { ⌜ (1 ≤ cameras) ⌝ }
+    requires { ⌜ 1 ≤ cameras ⌝ }
     ensures { λ r. ⌜ (r ≡ shareSize cameras room) × (cameras * r ≤ room) ⌝ }
 {
     STRIDE * (room / STRIDE / cameras)
