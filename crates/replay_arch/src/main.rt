@@ -6,7 +6,7 @@ use params::Outcome;
 use replay::Compared;
 use replay::Walk;
 
-// Entries of each lent work buffer, the bytes of that many words, and the longest file that a single call takes.
+// Entries of each lent work buffer, and the bytes of the longest file that a single call takes.
 const ROOM: usize = 2304;
 
 const LIMIT: usize = 2324;
@@ -54,7 +54,7 @@ fn replayed(s: &[u8]) {
 fn report(s: &[u8], walk: Walk, values: usize, arches: &[usize; 32], cameras: &[usize; 32]) {
     tell::head(s, walk);
     tell::say(b"values compared", values);
-    tell::each(b"arches of cameras ", arches, 2, 9);
+    tell::each(b"arches with a camera count of ", arches, 2, 9);
     tell::each(b"arches answered ", arches, 21, 22);
     tell::say(b"cameras", cameras[30]);
     tell::each(b"of these answered ", cameras, 0, 15);
@@ -73,12 +73,7 @@ fn field(s: &[u8], at: usize, n: usize) -> u64 {
 }
 
 // A record: camera count, length of the list, frames, and what is due.
-fn record(
-    s: &[u8],
-    at: usize,
-    arches: &mut [usize; 32],
-    cameras: &mut [usize; 32],
-) -> Compared {
+fn record(s: &[u8], at: usize, arches: &mut [usize; 32], cameras: &mut [usize; 32]) -> Compared {
     let given = vectors::skip(s, at, 8);
     let many = vectors::word(s, at);
     let room = vectors::capped(field(s, at, 4), NUMBERS);
@@ -104,9 +99,16 @@ fn record(
         &mut scratch,
         &mut list[0..room],
     );
-    let reached = vectors::capped(field(s, due, 8), ROOM);
+    let reached = field(s, due, 8);
     let kept = work_kept(
-        &working, &row, &col, &falling, &rising, &response, &scratch, reached,
+        working,
+        row,
+        col,
+        falling,
+        rising,
+        response,
+        scratch,
+        reached,
     );
     count_arch(outcome, many, arches);
     count_cameras(outcome, many, cameras);
@@ -145,8 +147,9 @@ fn count_cameras(outcome: ArchOutcome, many: u64, cameras: &mut [usize; 32]) {
         return;
     }
     let told = outcome.cameras;
+    let n = vectors::capped(many, 8);
     let mut i: usize = 0;
-    while i < vectors::capped(many, 8) {
+    while i < n {
         let one = told[i];
         let answer = one.answer;
         count(cameras, answer.number() as u64);
@@ -155,63 +158,59 @@ fn count_cameras(outcome: ArchOutcome, many: u64, cameras: &mut [usize; 32]) {
     }
 }
 
-// The work buffers from an entry on, which no frame reaches.
+// The work buffers, from the entry on that no frame reaches.
 fn work_kept(
-    working: &[u8; 2304],
-    row: &[u32; 2304],
-    col: &[u32; 2304],
-    falling: &[u32; 2304],
-    rising: &[u32; 2304],
-    response: &[f32; 2304],
-    scratch: &[f32; 2304],
-    from: usize,
+    working: [u8; 2304],
+    row: [u32; 2304],
+    col: [u32; 2304],
+    falling: [u32; 2304],
+    rising: [u32; 2304],
+    response: [f32; 2304],
+    scratch: [f32; 2304],
+    from: u64,
 ) -> Compared {
-    let old = [OLD; 9216];
-    let n = sizes::less(ROOM, from);
-    let c = replay::bytes(&old, 0, &working[from..], n);
-    let c = replay::then(c, replay::words(&old, 0, &row[from..], n));
-    let c = replay::then(c, replay::words(&old, 0, &col[from..], n));
-    let c = replay::then(c, replay::words(&old, 0, &falling[from..], n));
-    let c = replay::then(c, replay::words(&old, 0, &rising[from..], n));
-    let c = replay::then(c, replay::floats(&old, 0, &response[from..], n));
-    replay::then(c, replay::floats(&old, 0, &scratch[from..], n))
+    let c = bytes_kept(working, from);
+    let c = replay::then(c, words_kept(row, from));
+    let c = replay::then(c, words_kept(col, from));
+    let c = replay::then(c, words_kept(falling, from));
+    let c = replay::then(c, words_kept(rising, from));
+    let c = replay::then(c, floats_kept(response, from));
+    replay::then(c, floats_kept(scratch, from))
 }
 
-// The arch's own answer, its cameras, and its list against a second one into which single calls have written.
-fn against(
-    outcome: ArchOutcome,
-    list: [f32; 1024],
-    frames: &[u8],
-    s: &[u8],
-    due: usize,
-    cameras: &mut [usize; 32],
-) -> Compared {
-    let mut single = old_numbers();
-    let c = own(outcome, s, due);
-    let c = replay::then(
-        c,
-        each_camera(outcome, frames, s, due, &mut single, cameras),
-    );
-    replay::then(numbers(&list, &single), c)
+fn bytes_kept(bytes: [u8; 2304], from: u64) -> Compared {
+    let a = vectors::capped(from, ROOM);
+    replay::bytes(&[OLD; 2304], 0, &bytes[a..], ROOM - a)
 }
 
+fn words_kept(words: [u32; 2304], from: u64) -> Compared {
+    let a = vectors::capped(from, ROOM);
+    replay::words(&[OLD; 9216], 0, &words[a..], ROOM - a)
+}
+
+fn floats_kept(floats: [f32; 2304], from: u64) -> Compared {
+    let a = vectors::capped(from, ROOM);
+    replay::floats(&[OLD; 9216], 0, &floats[a..], ROOM - a)
+}
+
+// The arch's own answer.
 fn own(outcome: ArchOutcome, s: &[u8], due: usize) -> Compared {
     let answer = outcome.answer;
     Compared {
-        next: due,
+        next: vectors::skip(s, due, 12),
         wrong: vectors::differ(answer.number() as u64, vectors::word(s, due)),
         values: 1,
     }
 }
 
 // All numbers of two lists.
-fn numbers(list: &[f32], single: &[f32]) -> Compared {
+fn numbers(list: &[f32], second: &[f32]) -> Compared {
     let mut wrong: usize = 0;
     let mut i: usize = 0;
     while i < NUMBERS {
         wrong = vectors::plus(
             wrong,
-            vectors::differ(vectors::float_at(list, i), vectors::float_at(single, i)),
+            vectors::differ(vectors::float_at(list, i), vectors::float_at(second, i)),
         );
         i += 1;
     }
@@ -222,32 +221,29 @@ fn numbers(list: &[f32], single: &[f32]) -> Compared {
     }
 }
 
-// Eight cameras, of which those beyond the count are due too, each with its share of the second list.
-fn each_camera(
+// The own answer; eight cameras, those beyond the count too; and the list, against a second one into whose shares single calls have written.
+fn against(
     outcome: ArchOutcome,
+    list: [f32; 1024],
     frames: &[u8],
     s: &[u8],
     due: usize,
-    single: &mut [f32; 1024],
     cameras: &mut [usize; 32],
 ) -> Compared {
     let told = outcome.cameras;
     let size = vectors::capped(field(s, due, 4), SHARE);
-    let mut all = Compared {
-        next: vectors::skip(s, due, 12),
-        wrong: 0,
-        values: 0,
-    };
+    let mut second = old_numbers();
+    let mut all = own(outcome, s, due);
     let mut a: usize = 0;
     let mut i: usize = 0;
     while i < 8 {
         let e = a + size;
-        let c = camera(told[i], frames, s, all.next, &mut single[a..e], cameras);
+        let c = camera(told[i], frames, s, all.next, &mut second[a..e], cameras);
         all = replay::then(all, c);
         a = e;
         i += 1;
     }
-    all
+    replay::then(numbers(&list, &second), all)
 }
 
 // A camera against what is listed and, where its frame lies whole and is not too long for that, against a single call with its share.
