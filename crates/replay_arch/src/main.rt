@@ -23,13 +23,15 @@ const OLD_WORD: u32 = 0xa5a5_a5a5;
 
 const OLD_NUMBER: u64 = 0xa5a5_0000;
 
-// Where cameras are counted, behind those of each answer: all, and those held to a single call.
-const ALL: u64 = 30;
+// Where cameras are counted, behind those of each answer: their corners, all cameras, and those held to a single call.
+const FOUND: usize = 29;
 
-const SINGLE: u64 = 31;
+const ALL: usize = 30;
+
+const SINGLE: usize = 31;
 
 // Where arches are counted that were refused, behind those of each camera count.
-const REFUSED: u64 = 21;
+const REFUSED: usize = 21;
 
 fn main() {
     let mut input = vectors::room();
@@ -55,16 +57,17 @@ fn report(s: &[u8], walk: Walk, values: usize, arches: &[usize; 32], cameras: &[
     tell::head(s, walk);
     tell::say(b"values compared", values);
     tell::each(b"arches with a camera count of ", arches, 2, 9);
-    tell::each(b"arches answered ", arches, 21, 22);
-    tell::say(b"cameras", cameras[30]);
+    tell::say(b"arches answered 21", arches[REFUSED]);
+    tell::say(b"cameras", cameras[ALL]);
     tell::each(b"of these answered ", cameras, 0, 15);
-    tell::say(b"of these held to a single call", cameras[31]);
+    tell::say(b"of these held to a single call", cameras[SINGLE]);
+    tell::say(b"corners that they found", cameras[FOUND]);
 }
 
-// One more there.
-fn count(many: &mut [usize; 32], at: u64) {
-    let i = vectors::capped(at, 31);
-    many[i] = vectors::plus(many[i], 1);
+// So many more there.
+fn count(counts: &mut [usize; 32], at: usize, n: usize) {
+    let i = vectors::capped(at as u64, 31);
+    counts[i] = vectors::plus(counts[i], n);
 }
 
 // A word of a record, so many bytes behind a place.
@@ -75,7 +78,7 @@ fn field(s: &[u8], at: usize, n: usize) -> u64 {
 // A record: camera count, length of the list, frames, and what is due.
 fn record(s: &[u8], at: usize, arches: &mut [usize; 32], cameras: &mut [usize; 32]) -> Compared {
     let given = vectors::skip(s, at, 8);
-    let many = vectors::word(s, at);
+    let many = vectors::word(s, at) as usize;
     let room = vectors::capped(field(s, at, 4), NUMBERS);
     let frames = vectors::sized(s, given);
     let due = vectors::behind(s, given);
@@ -88,7 +91,7 @@ fn record(s: &[u8], at: usize, arches: &mut [usize; 32], cameras: &mut [usize; 3
     let mut response = [old_float(); 2304];
     let mut scratch = [old_float(); 2304];
     let outcome = arch::run_arch(
-        many as usize,
+        many,
         frames,
         &mut working,
         &mut row,
@@ -131,29 +134,30 @@ fn old_numbers() -> [f32; 1024] {
 }
 
 // By its camera count, or as refused.
-fn count_arch(outcome: ArchOutcome, many: u64, arches: &mut [usize; 32]) {
+fn count_arch(outcome: ArchOutcome, many: usize, arches: &mut [usize; 32]) {
     let answer = outcome.answer;
     if answer.number() == 0 {
-        count(arches, many);
+        count(arches, many, 1);
     } else {
-        count(arches, REFUSED);
+        count(arches, REFUSED, 1);
     }
 }
 
 // By its answer, each camera of an arch that was not refused.
-fn count_cameras(outcome: ArchOutcome, many: u64, cameras: &mut [usize; 32]) {
+fn count_cameras(outcome: ArchOutcome, many: usize, cameras: &mut [usize; 32]) {
     let own = outcome.answer;
     if own.number() != 0 {
         return;
     }
     let told = outcome.cameras;
-    let n = vectors::capped(many, 8);
+    let n = vectors::capped(many as u64, 8);
     let mut i: usize = 0;
     while i < n {
         let one = told[i];
         let answer = one.answer;
-        count(cameras, answer.number() as u64);
-        count(cameras, ALL);
+        count(cameras, answer.number() as usize, 1);
+        count(cameras, FOUND, one.count);
+        count(cameras, ALL, 1);
         i += 1;
     }
 }
@@ -262,7 +266,7 @@ fn camera(
     if file.len() == 0 || file.len() > LIMIT {
         return c;
     }
-    count(cameras, SINGLE);
+    count(cameras, SINGLE, 1);
     let single = program::run_with_room(file, share);
     replay::then(same(told, single), c)
 }

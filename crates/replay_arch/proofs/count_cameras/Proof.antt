@@ -40,6 +40,9 @@ count-requires c κs = search needs
 count-requires-2 : tie.Need-count-requires-2 Inv-loop μ-loop
 count-requires-2 c κs = search needs
 
+count-requires-3 : tie.Need-count-requires-3 Inv-loop μ-loop
+count-requires-3 c κs = search needs
+
 add-i : tie.Need-add-i Inv-loop μ-loop
 add-i c = search needs
 
@@ -68,6 +71,7 @@ count-cameras-spec =
     cast-count
     count-requires
     count-requires-2
+    count-requires-3
     add-i
     loop-less
     loop-again
