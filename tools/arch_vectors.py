@@ -56,12 +56,13 @@ def file_due(file):
         return 11, 0, 0
     version, _, w, h, ray, up, blur, mode, nms, _, threshold = struct.unpack(">BIHHBBBBBHI", file[:20])
     factor = min(max(up, 1), 2)
-    share = float_of(threshold)
-    first = ((12, version != 1), (14, mode > 1))
-    then = ((2, max(w, h) > 4096), (3, len(file) - 20 != w * h), (4, factor * w * factor * h > 8388608), (5, ray > 7),
-            (6, blur > 3), (7, nms > 32), (8, math.isnan(share) or share < 0 or share > 1),
-            (9, factor * w * factor * h > ROOM))
-    for answer, given in first + then:
+    fraction = float_of(threshold)
+    working = factor * w * factor * h
+    of_the_file = ((12, version != 1), (14, mode > 1))
+    of_the_call = ((2, max(w, h) > 4096), (3, len(file) - 20 != w * h), (4, working > 8388608), (5, ray > 7),
+                   (6, blur > 3), (7, nms > 32), (8, math.isnan(fraction) or fraction < 0 or fraction > 1),
+                   (9, working > ROOM))
+    for answer, given in of_the_file + of_the_call:
         if given:
             return answer, 0, 0
     return TAKEN, factor * w, factor * h
@@ -192,11 +193,11 @@ def short(dice, stated):
     return file[:1] + struct.pack(">I", stated) + file[5:]
 
 
-def long_frames(dice):
+def long_frames():
     """Whole, and longer than a single call takes: with each answer that there is for such."""
     line, plane = [7] * (LIMIT - 20 + 1), [9] * (49 * 48)
     return [
-        (frame(5000, 1, line), 2), (frame(7, 7, crossing(7, 7, 3, 3) + line), 3), (frame(0, 0, line, version=1), 3),
+        (frame(5000, 1, line), 2), (frame(7, 7, crossing(7, 7, 3, 3) + line), 3), (frame(0, 0, line), 3),
         (frame(2305, 1, line, ray=8), 5), (frame(1, 2305, line, blur=4), 6), (frame(2305, 1, line, nms=33), 7),
         (frame(1, 2305, line, threshold=0x7FC00000), 8), (frame(2305, 1, line), 9), (frame(49, 48, plane), 9),
         (frame(48, 49, plane, up=2), 9), (frame(1, 2305, line, version=2), 12), (frame(2305, 1, line, mode=2), 14),
@@ -262,7 +263,7 @@ def short_among(dice):
 
 def long_among(dice):
     """Frames that a single call is too short for; and the longest that it takes."""
-    for k, (file, answer) in enumerate(long_frames(dice)):
+    for k, (file, answer) in enumerate(long_frames()):
         cameras = 2 + k % 7
         frames = some(dice, cameras)
         frames[k % cameras] = (file, answer)
@@ -276,10 +277,9 @@ def past_the_end(dice):
     """Bytes whose stated length runs past the end, with another fault too."""
     file = taken(dice)
     cut = dice.randrange(1, len(file) - 4)
-    last = frame(8, 8, board(8, 8, 3, 1, 1))
     return [
         file[:-1], file[: len(file) - cut], frame(7, 7, [], stated=2**32 - 1), frame(7, 7, [], stated=0xFFFFFFFB),
-        frame(8, 8, board(8, 8, 3, 1, 1), stated=len(last) - 5 + 1), frame(7, 7, crossing(7, 7, 3, 3), version=2)[:-1],
+        frame(8, 8, board(8, 8, 3, 1, 1), stated=15 + 64 + 1), frame(7, 7, crossing(7, 7, 3, 3), version=2)[:-1],
         frame(7, 7, [], mode=9)[:19], frame(5000, 7, [1, 2, 3], stated=19), struct.pack(">BI", 1, 1),
         struct.pack(">BI", 0, 2**31), struct.pack(">BI", 1, 14) + bytes(13), struct.pack(">BI", 3, 10) + bytes(9),
         frame(9, 9, [], ray=8, stated=16), first_frame()[:5], frame(49, 48, [], stated=LIMIT),
@@ -387,8 +387,8 @@ def main():
         own["21" if made_for is None else f"0 with {cameras} cameras"] += 1
         told.update(made_for or ())
     assert set(told) == {TAKEN, 13} | set(WHOLE)
-    out = (b"Made by tools/arch_vectors.py, seed %d: %d arches, answered by document 02's text.\n" % (SEED, len(vectors))
-           + b"".join(vectors))
+    head = b"Made by tools/arch_vectors.py, seed %d: %d arches, answered by document 02's text.\n"
+    out = head % (SEED, len(vectors)) + b"".join(vectors)
     assert len(out) < 500000
     sys.stdout.buffer.write(out)
     for name in sorted(own):

@@ -70,16 +70,11 @@ fn count(counts: &mut [usize; 32], at: usize, n: usize) {
     counts[i] = vectors::plus(counts[i], n);
 }
 
-// A word of a record, so many bytes behind a place.
-fn field(s: &[u8], at: usize, n: usize) -> u64 {
-    vectors::word(s, vectors::skip(s, at, n))
-}
-
 // A record: camera count, length of the list, frames, and what is due.
 fn record(s: &[u8], at: usize, arches: &mut [usize; 32], cameras: &mut [usize; 32]) -> Compared {
     let given = vectors::skip(s, at, 8);
     let many = vectors::word(s, at) as usize;
-    let room = vectors::capped(field(s, at, 4), NUMBERS);
+    let room = vectors::capped(vectors::field(s, at, 4), NUMBERS);
     let frames = vectors::sized(s, given);
     let due = vectors::behind(s, given);
     let mut list = old_numbers();
@@ -102,7 +97,7 @@ fn record(s: &[u8], at: usize, arches: &mut [usize; 32], cameras: &mut [usize; 3
         &mut scratch,
         &mut list[0..room],
     );
-    let reached = field(s, due, 8);
+    let reached = vectors::field(s, due, 8);
     let kept = work_kept(
         working,
         row,
@@ -235,7 +230,7 @@ fn against(
     cameras: &mut [usize; 32],
 ) -> Compared {
     let told = outcome.cameras;
-    let size = vectors::capped(field(s, due, 4), SHARE);
+    let size = vectors::capped(vectors::field(s, due, 4), SHARE);
     let mut second = old_numbers();
     let mut all = own(outcome, s, due);
     let mut a: usize = 0;
@@ -261,7 +256,7 @@ fn camera(
 ) -> Compared {
     let c = listed(told, s, vectors::skip(s, at, 8));
     let begin = vectors::word(s, at) as usize;
-    let end = vectors::skip(frames, begin, field(s, at, 4) as usize);
+    let end = vectors::skip(frames, begin, vectors::field(s, at, 4) as usize);
     let file = vectors::part(frames, begin, end);
     if file.len() == 0 || file.len() > LIMIT {
         return c;
@@ -276,8 +271,8 @@ fn listed(told: Outcome, s: &[u8], at: usize) -> Compared {
     let answer = told.answer;
     let number = answer.number() as u64;
     let sides = vectors::plus(
-        vectors::differ(told.w as u64, field(s, at, 4)),
-        vectors::differ(told.h as u64, field(s, at, 8)),
+        vectors::differ(told.w as u64, vectors::field(s, at, 4)),
+        vectors::differ(told.h as u64, vectors::field(s, at, 8)),
     );
     let head = if number <= 1 {
         vectors::differ(0, vectors::word(s, at))

@@ -84,15 +84,10 @@ fn vector(s: &[u8], at: usize) -> Compared {
     written(part, s, at, due)
 }
 
-// A word of a vector, so many bytes into it.
-fn field(s: &[u8], at: usize, n: usize) -> u64 {
-    vectors::word(s, vectors::skip(s, at, n))
-}
-
 // A record into a list, of which as much is lent as the vector says.
 fn read(file: &[u8], s: &[u8], at: usize, due: usize) -> Compared {
     let mut list = [vectors::float(OLD_NUMBER); 1024];
-    let room = vectors::capped(field(s, at, 12), NUMBERS);
+    let room = vectors::capped(vectors::field(s, at, 12), NUMBERS);
     let outcome = record::read_record(file, &mut list[0..room]);
     against(outcome, s, at, due, list_differs(list, s, due))
 }
@@ -102,7 +97,7 @@ fn written(patterns: &[u8], s: &[u8], at: usize, due: usize) -> Compared {
     let list = numbers(patterns);
     let n = vectors::capped((patterns.len() / 4) as u64, NUMBERS);
     let mut out = [OLD; 4096];
-    let room = vectors::capped(field(s, at, 12), BYTES);
+    let room = vectors::capped(vectors::field(s, at, 12), BYTES);
     let w = side(s, at, 4);
     let h = side(s, at, 8);
     let outcome = record::write_record(w, h, &list[0..n], &mut out[0..room]);
@@ -121,7 +116,7 @@ fn numbers(patterns: &[u8]) -> [f32; 1024] {
 }
 
 fn side(s: &[u8], at: usize, n: usize) -> u16 {
-    vectors::capped(field(s, at, n), MAX_SIDE) as u16
+    vectors::capped(vectors::field(s, at, n), MAX_SIDE) as u16
 }
 
 // The numbers that are due, and behind them those that were there before.
@@ -145,12 +140,12 @@ fn against(outcome: Outcome, s: &[u8], at: usize, due: usize, entries: usize) ->
     let answer = outcome.answer;
     let number = answer.number() as u64;
     let head = vectors::plus(
-        vectors::differ(number, field(s, at, 16)),
-        vectors::differ(outcome.count as u64, field(s, at, 20)),
+        vectors::differ(number, vectors::field(s, at, 16)),
+        vectors::differ(outcome.count as u64, vectors::field(s, at, 20)),
     );
     let sides = vectors::plus(
-        vectors::differ(outcome.w as u64, field(s, at, 24)),
-        vectors::differ(outcome.h as u64, field(s, at, 28)),
+        vectors::differ(outcome.w as u64, vectors::field(s, at, 24)),
+        vectors::differ(outcome.h as u64, vectors::field(s, at, 28)),
     );
     Compared {
         next: vectors::behind(s, due),
