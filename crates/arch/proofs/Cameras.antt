@@ -12,7 +12,7 @@ use Rattle.grid.proofs.Fill.{filled-zero, fill-step}
 use Rattle.params.specs.declared.answers.Outcome.{Outcome}
 use Rattle.radon.specs.Finder.{Buffers}
 use Rattle.arch.specs.Arch.{dueIn, restAt, cameraOutcome, cameraBuffers, lentTo, backFrom, leftBy, told, noFrame}
-use Rattle.arch.specs.Taken.{takenBy}
+use Rattle.arch.specs.Gone.{goneBy}
 use Rattle.arch.proofs.Frames.{next-inside, next-rest}
 use Rattle.arch.proofs.Shares.{share-in}
 
@@ -70,7 +70,7 @@ module _ (frames : List ℕ) (size cameras : ℕ) (b : Buffers) where
       {o : Outcome} {d : Buffers} {n : ℕ}
       (tell : o ≡ cameraOutcome (drop at frames) (dueIn (drop at frames)) (lentTo size i c))
       (leave : d ≡ cameraBuffers (drop at frames) (dueIn (drop at frames)) (lentTo size i c))
-      (gone : n ≡ takenBy (drop at frames) (dueIn (drop at frames))) where
+      (gone : n ≡ goneBy (dueIn (drop at frames)) (length (drop at frames))) where
     told-next : o ≡ told frames size b i
     unfolding told
     told-next = tell ∙ (λ k. cameraOutcome (ran .rest k) (dueIn (ran .rest k)) (lentTo size i (ran .left k)))
@@ -112,7 +112,7 @@ module _ (frames : List ℕ) (size cameras : ℕ) (b : Buffers) where
     all = take-all (length frames - at) (drop at frames) (omega (arith, length-drop at frames))
 
     -- the next frame is due in the slice
-    pub next-in : {n : ℕ} → n ≡ takenBy rest (dueIn rest) → at + n ≤ length frames
+    pub next-in : {n : ℕ} → n ≡ goneBy (dueIn rest) (length rest) → at + n ≤ length frames
     next-in gone = next-inside frames i (ran .inside) (ran .rest) (rw all at gone)
 
     same-lengths : {d : Buffers} → SameLengths given d → SameLengths b (returned d)
@@ -130,7 +130,7 @@ module _ (frames : List ℕ) (size cameras : ℕ) (b : Buffers) where
         }
 
     pub ran-turn : {o : Outcome} {d : Buffers} {n : ℕ} → o ≡ cameraOutcome rest (dueIn rest) given → d ≡ cameraBuffers rest (dueIn rest) given
-        → n ≡ takenBy rest (dueIn rest) → SameLengths given d → Ran frames size cameras b (returned d) (set out i o) (at + n) (i + 1)
+        → n ≡ goneBy (dueIn rest) (length rest) → SameLengths given d → Ran frames size cameras b (returned d) (set out i o) (at + n) (i + 1)
     ran-turn tell leave gone long =
         let whole : part ≡ size = omega arith in
         rw whole

@@ -15,7 +15,7 @@ use Rattle.params.specs.declared.answers.Answer.the-variants.{FileTooShort, Sta
 use Rattle.arch.specs.declared.due.Due.{Due}
 use Rattle.arch.specs.declared.due.Due.the-variants.{Whole, Refused}
 use Rattle.arch.specs.Arch.{dueIn, behind, restAt}
-use Rattle.arch.specs.Taken.{takenBy}
+use Rattle.arch.specs.Gone.{goneBy}
 
 module _ (rest : List ℕ) where
   pub too-short : length rest < 5 → Refused FileTooShort ≡ dueIn rest
@@ -50,19 +50,19 @@ module _ (rest : List ℕ) where
           omega (arith, h refl)
 
   -- what is gone of it
-  taken-in : (d : Due) → dueIn rest ≡ d → takenBy rest d ≤ length rest
-  taken-in (Whole n) e = whole-in e
-  taken-in (Refused a) e = omega arith
+  gone-within : (d : Due) → dueIn rest ≡ d → goneBy d (length rest) ≤ length rest
+  gone-within (Whole n) e = whole-in e
+  gone-within (Refused a) e = omega arith
 
-  behind-it : (d : Due) → drop (takenBy rest d) rest ≡ behind rest d
+  behind-it : (d : Due) → drop (goneBy d (length rest)) rest ≡ behind rest d
   behind-it (Whole n) = refl
   behind-it (Refused a) = drop-length rest
 
 -- a turn: from where camera i's frame is due to where the next one's is
 module _ (frames : List ℕ) (i : ℕ) {at n : ℕ} (inside : at ≤ length frames) (rest : drop at frames ≡ restAt frames i)
-    (gone : n ≡ takenBy (drop at frames) (dueIn (drop at frames))) where
+    (gone : n ≡ goneBy (dueIn (drop at frames)) (length (drop at frames))) where
   pub next-inside : at + n ≤ length frames
-  next-inside = omega (arith, taken-in (drop at frames) _ refl, length-drop at frames)
+  next-inside = omega (arith, gone-within (drop at frames) _ refl, length-drop at frames)
 
   pub next-rest : drop (at + n) frames ≡ restAt frames (i + 1)
   unfolding restAt

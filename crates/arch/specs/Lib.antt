@@ -1,3 +1,3 @@
 -- All cameras of an arch in one call.
 pub mod Arch
-pub mod Taken
+pub mod Gone

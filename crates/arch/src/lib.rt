@@ -2,7 +2,7 @@
 // has an equal share of the list.
 use due::Due;
 use due::due_in;
-use due::taken;
+use due::gone_in;
 use frame_runner::run_frame_file;
 use params::Answer;
 use params::Outcome;
@@ -133,7 +133,7 @@ fn run_cameras(
             scratch,
             &mut list[a..e],
         );
-        at += taken(rest);
+        at += gone_in(rest);
     }
     told
 }

@@ -2,3 +2,4 @@
 pub mod Cases
 pub mod OneFloat
 pub mod OnlyThree
+pub mod Cameras

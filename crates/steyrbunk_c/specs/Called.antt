@@ -1,5 +1,5 @@
 -- What a call's numbers mean, and what it reports in numbers. Corners, map and buffers are those of the crates beneath.
-use mathlib.Core.List.{List}
+use mathlib.Core.List.{List, [], _∷_}
 use Prim.Native.Nat.{ℕ}
 use lib.Ieee.{Float}
 use Rattle.params.specs.declared.settings.PeakFitMode.{PeakFitMode}
@@ -61,6 +61,10 @@ reported number count w h = record { number = number; count = count; w = w; h = 
 
 abbrev pub told : Outcome → Told
 told o = reported (numberOf (o .answer)) (o .count) (o .w) (o .h)
+
+-- "for each of up to eight cameras answer, count, W, H"
+abbrev pub cameraNumbers : Outcome → List ℕ
+cameraNumbers o = numberOf (o .answer) ∷ o .count ∷ o .w ∷ o .h ∷ []
 
 pub record MapTold : Type 0 where
   pub number : ℕ

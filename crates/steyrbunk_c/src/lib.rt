@@ -1,16 +1,19 @@
-// The finder, the map and the list, corner records, the square root and the logarithm for a C or Rust program to call: numbers and slices, and every
-// answer as its number. A slice is a pointer and a length there. The header in tools/steyrbunk/include explains each argument.
+// The finder, all cameras of an arch, the map and the list, corner records, the square root and the logarithm for a C or Rust program to call:
+// numbers and slices, and every answer as its number. A slice is a pointer and a length there. The header in tools/steyrbunk/include explains each argument.
 ghost use mathlib.Core.Path.{_≡_};
 ghost use lib.ListN.{length};
+ghost use Rattle.grid.specs.Each.{each};
 ghost use Rattle.scalar.specs.Log.{logOf, terms, high};
 ghost use Rattle.scalar.specs.Root.{rootOf};
 ghost use Rattle.params.specs.Answers.{numberOf};
 ghost use Rattle.response.specs.Map.{mapLent, mappedOf, mapBuffersOf};
 ghost use Rattle.radon.specs.Finder.{lent};
+ghost use Rattle.arch.specs.Arch.{archOutcome, archBuffers};
 ghost use Rattle.record.specs.Record.{version, stride, writeOutcome, written, readOutcome, readBack};
-ghost use Rattle.steyrbunk_c.specs.Called.{settingsOf, mapSettings, reported, told, mapReported, mapTold};
+ghost use Rattle.steyrbunk_c.specs.Called.{settingsOf, mapSettings, reported, told, mapReported, mapTold, cameraNumbers};
 ghost use Rattle.steyrbunk_c.specs.Called.{calledOutcome, calledBuffers, calledPeaks, calledList};
 ghost use Rattle.steyrbunk_c.specs.OrNan.{rootOrNan, logOrNan};
+use arch::run_arch;
 use params::Answer;
 use params::NumberedMode;
 use params::Outcome;
@@ -98,6 +101,67 @@ pub extern "C" fn steyrbunk_find(
     };
     let o = radon_corners_u8(img, w, h, p, work, row, col, fall, rise, resp, scratch, out);
     tell(o, count, ww, wh)
+}
+
+// What the cameras of an arch are told, four numbers each: answer, count, W and H.
+fn tell_cameras(cameras: [Outcome; 8], told: &mut [usize])
+    requires { ⌜ length (now told) ≡ 32 ⌝ }
+    ensures { λ _. ⌜ now (told .exit) ≡ each cameraNumbers cameras ⌝ }
+{
+    for i in 0..8 {
+        let o = cameras[i];
+        let answer = o.answer;
+        let at = 4 * i;
+        told[at] = answer.number() as usize;
+        told[at + 1] = o.count;
+        told[at + 2] = o.w;
+        told[at + 3] = o.h;
+    }
+}
+
+// All cameras of an arch: frame files end to end, and as many equal shares of the list as there are cameras.
+#[no_mangle]
+pub extern "C" fn steyrbunk_arch(
+    cameras: usize,
+    frames: &[u8],
+    work: &mut [u8],
+    row: &mut [u32],
+    col: &mut [u32],
+    fall: &mut [u32],
+    rise: &mut [u32],
+    resp: &mut [f32],
+    scratch: &mut [f32],
+    out: &mut [f32],
+    told: &mut [usize; 32],
+) -> u32
+    ensures answer { λ r. ⌜ r ≡ numberOf ((archOutcome cameras (now (frames .entry))
+        (lent (now (work .entry)) (now (row .entry)) (now (col .entry)) (now (fall .entry)) (now (rise .entry))
+        (now (resp .entry)) (now (scratch .entry)) (now (out .entry)))) .answer) ⌝ }
+    ensures told { λ _. ⌜ now (told .exit) ≡ each cameraNumbers ((archOutcome cameras (now (frames .entry))
+        (lent (now (work .entry)) (now (row .entry)) (now (col .entry)) (now (fall .entry)) (now (rise .entry))
+        (now (resp .entry)) (now (scratch .entry)) (now (out .entry)))) .cameras) ⌝ }
+    ensures buffers { λ _. ⌜ lent (now (work .exit)) (now (row .exit)) (now (col .exit)) (now (fall .exit)) (now (rise .exit))
+        (now (resp .exit)) (now (scratch .exit)) (now (out .exit))
+        ≡ archBuffers cameras (now (frames .entry))
+        (lent (now (work .entry)) (now (row .entry)) (now (col .entry)) (now (fall .entry)) (now (rise .entry))
+        (now (resp .entry)) (now (scratch .entry)) (now (out .entry))) ⌝ }
+{
+    let o = run_arch(
+        cameras,
+        frames,
+        work,
+        row,
+        col,
+        fall,
+        rise,
+        resp,
+        scratch,
+        out,
+    );
+    let answer = o.answer;
+    let each = o.cameras;
+    tell_cameras(each, told);
+    answer.number()
 }
 
 // The settings for the map's own entry.

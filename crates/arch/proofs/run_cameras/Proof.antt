@@ -18,7 +18,7 @@ abbrev μ-loop : tie.MeasureT-loop
     cameras - i
 
 -- the way back: from the turn's end to its camera's call, and from there to where its frame is cut
-abbrev called : tie.After-taken Inv-loop μ-loop → tie.After-run-camera Inv-loop μ-loop
+abbrev called : tie.After-gone-in Inv-loop μ-loop → tie.After-run-camera Inv-loop μ-loop
 called c = c .before .before .before .before .before .before .before .before .before .before .before .before .before .before .before .before .before
 
 abbrev cut : tie.After-run-camera Inv-loop μ-loop → tie.After-rest Inv-loop μ-loop
@@ -82,13 +82,13 @@ mul-told c = omega (arith, share (ended c))
 array-set-from-told : tie.Need-array-set-from-told Inv-loop μ-loop
 array-set-from-told c = omega (arith, share (ended c))
 
-taken-requires : tie.Need-taken-requires Inv-loop μ-loop
-taken-requires c κs = search needs
+gone-in-requires : tie.Need-gone-in-requires Inv-loop μ-loop
+gone-in-requires c κs = search needs
 
 add-at : tie.Need-add-at Inv-loop μ-loop
 add-at c =
     let t = cut (called c) .before in
-    omega (arith, next-in _ _ _ _ (t .before .loop .inv) (t .loop-test .taken) (c .taken .ensures))
+    omega (arith, next-in _ _ _ _ (t .before .loop .inv) (t .loop-test .taken) (c .gone-in .ensures))
 
 add-i : tie.Need-add-i Inv-loop μ-loop
 add-i c = omega arith
@@ -100,7 +100,7 @@ loop-again : tie.Need-loop-again Inv-loop μ-loop
 loop-again c =
     let r = called c in
     let t = cut r .before in
-    ran-turn _ _ _ _ (t .before .loop .inv) (t .loop-test .taken) (r .run-camera .ensures .0) (r .run-camera .ensures .1) (c .taken .ensures)
+    ran-turn _ _ _ _ (t .before .loop .inv) (t .loop-test .taken) (r .run-camera .ensures .0) (r .run-camera .ensures .1) (c .gone-in .ensures)
     (record {
       working = c .before .before .before .before .before .before .before .before .before .before .before .before .before .before .before .before .working .given;
       row = c .before .before .before .before .before .before .before .before .before .before .before .before .before .before .row .given;
@@ -159,7 +159,7 @@ run-cameras-spec =
     run-camera-requires
     mul-told
     array-set-from-told
-    taken-requires
+    gone-in-requires
     add-at
     add-i
     loop-less

@@ -9,11 +9,8 @@ use Rattle.arch.proofs.due.due_in.Tie as tie
 returns : tie.Need-returns
 returns c = too-short (now (c .before .before .args .rest)) (c .if1 .taken)
 
-word-at-requires : tie.Need-word-at-requires
-word-at-requires c κs = search needs
-
-cast-stated : tie.Need-cast-stated
-cast-stated c = search needs
+stated-in-requires : tie.Need-stated-in-requires
+stated-in-requires c κs = search needs
 
 sub-if2 : tie.Need-sub-if2
 sub-if2 c = search needs
@@ -21,7 +18,7 @@ sub-if2 c = search needs
 returns-2 : tie.Need-returns-2
 returns-2 c =
     let w = c .before in
-    past-the-end (now (w .before .before .before .args .rest)) (w .word-at .ensures) (w .before .if1 .left) (c .if2 .taken)
+    past-the-end (now (w .before .before .before .args .rest)) (w .stated-in .ensures) (w .before .if1 .left) (c .if2 .taken)
 
 add-t3 : tie.Need-add-t3
 add-t3 c = search needs
@@ -29,8 +26,8 @@ add-t3 c = search needs
 returns-3 : tie.Need-returns-3
 returns-3 c =
     let w = c .before in
-    lies-whole (now (w .before .before .before .args .rest)) (w .word-at .ensures) (w .before .if1 .left) (c .if2 .left)
+    lies-whole (now (w .before .before .before .args .rest)) (w .stated-in .ensures) (w .before .if1 .left) (c .if2 .left)
 
 pub due-in-spec : {M : Type 1} → statement M
 due-in-spec =
-    tie.close (tie.spec returns word-at-requires cast-stated sub-if2 returns-2 add-t3 returns-3)
+    tie.close (tie.spec returns stated-in-requires sub-if2 returns-2 add-t3 returns-3)
