@@ -1,6 +1,5 @@
 // Replays arches and compares with what tools/arch_vectors.py lists; and each camera whose frame lies whole with a single call of the program's
 // function: answer, count and sides, every number of the list, to the bit, and that each work entry which no frame reaches is as it was.
-use arch::ArchOutcome;
 use libc::STDIN_FILENO;
 use params::Outcome;
 use replay::Compared;
@@ -108,9 +107,13 @@ fn record(s: &[u8], at: usize, arches: &mut [usize; 32], cameras: &mut [usize; 3
         scratch,
         reached,
     );
-    count_arch(outcome, many, arches);
-    count_cameras(outcome, many, cameras);
-    replay::then(kept, against(outcome, list, frames, s, due, cameras))
+    let answer = outcome.answer;
+    let number = answer.number() as u64;
+    count(arches, told_as(number, many, REFUSED), 1);
+    let c = replay::then(kept, own(number, s, due));
+    let n = told_as(number, many, 0);
+    let told = outcome.cameras;
+    replay::then(c, against(told, n, list, frames, s, due, cameras))
 }
 
 fn old_float() -> f32 {
@@ -128,33 +131,9 @@ fn old_numbers() -> [f32; 1024] {
     list
 }
 
-// By its camera count, or as refused.
-fn count_arch(outcome: ArchOutcome, many: usize, arches: &mut [usize; 32]) {
-    let answer = outcome.answer;
-    if answer.number() == 0 {
-        count(arches, many, 1);
-    } else {
-        count(arches, REFUSED, 1);
-    }
-}
-
-// By its answer, each camera of an arch that was not refused.
-fn count_cameras(outcome: ArchOutcome, many: usize, cameras: &mut [usize; 32]) {
-    let own = outcome.answer;
-    if own.number() != 0 {
-        return;
-    }
-    let told = outcome.cameras;
-    let n = vectors::capped(many as u64, 8);
-    let mut i: usize = 0;
-    while i < n {
-        let one = told[i];
-        let answer = one.answer;
-        count(cameras, answer.number() as usize, 1);
-        count(cameras, FOUND, one.count);
-        count(cameras, ALL, 1);
-        i += 1;
-    }
+// The camera count of an arch with that answer of its own, or a number in its place where it was refused.
+fn told_as(number: u64, many: usize, refused: usize) -> usize {
+    if number == 0 { many } else { refused }
 }
 
 // The work buffers, from the entry on that no frame reaches.
@@ -193,11 +172,10 @@ fn floats_kept(floats: [f32; 2304], from: u64) -> Compared {
 }
 
 // The arch's own answer.
-fn own(outcome: ArchOutcome, s: &[u8], due: usize) -> Compared {
-    let answer = outcome.answer;
+fn own(number: u64, s: &[u8], due: usize) -> Compared {
     Compared {
-        next: vectors::skip(s, due, 12),
-        wrong: vectors::differ(answer.number() as u64, vectors::word(s, due)),
+        next: due,
+        wrong: vectors::differ(number, vectors::word(s, due)),
         values: 1,
     }
 }
@@ -220,24 +198,32 @@ fn numbers(list: &[f32], second: &[f32]) -> Compared {
     }
 }
 
-// The own answer; eight cameras, those beyond the count too; and the list, against a second one into whose shares single calls have written.
+// Eight cameras, those beyond the n of the arch too; and the list, against a second one into whose shares single calls have written.
 fn against(
-    outcome: ArchOutcome,
+    told: [Outcome; 8],
+    n: usize,
     list: [f32; 1024],
     frames: &[u8],
     s: &[u8],
     due: usize,
     cameras: &mut [usize; 32],
 ) -> Compared {
-    let told = outcome.cameras;
     let size = vectors::capped(vectors::field(s, due, 4), SHARE);
     let mut second = old_numbers();
-    let mut all = own(outcome, s, due);
+    let mut all = nothing(vectors::skip(s, due, 12));
     let mut a: usize = 0;
     let mut i: usize = 0;
     while i < 8 {
         let e = a + size;
-        let c = camera(told[i], frames, s, all.next, &mut second[a..e], cameras);
+        let c = camera(
+            told[i],
+            i < n,
+            frames,
+            s,
+            all.next,
+            &mut second[a..e],
+            cameras,
+        );
         all = replay::then(all, c);
         a = e;
         i += 1;
@@ -245,15 +231,27 @@ fn against(
     replay::then(numbers(&list, &second), all)
 }
 
-// A camera against what is listed and, where its frame lies whole and is not too long for that, against a single call with its share.
+fn nothing(at: usize) -> Compared {
+    Compared {
+        next: at,
+        wrong: 0,
+        values: 0,
+    }
+}
+
+// A camera, which counts or is beyond the arch's, against what is listed and, where its frame lies whole and is not too long for that, against a single call with its share.
 fn camera(
     told: Outcome,
+    counts: bool,
     frames: &[u8],
     s: &[u8],
     at: usize,
     share: &mut [f32],
     cameras: &mut [usize; 32],
 ) -> Compared {
+    if counts {
+        count_camera(told, cameras);
+    }
     let c = listed(told, s, vectors::skip(s, at, 8));
     let begin = vectors::word(s, at) as usize;
     let end = vectors::skip(frames, begin, vectors::field(s, at, 4) as usize);
@@ -264,6 +262,14 @@ fn camera(
     count(cameras, SINGLE, 1);
     let single = program::run_with_room(file, share);
     replay::then(same(told, single), c)
+}
+
+// By its answer.
+fn count_camera(told: Outcome, cameras: &mut [usize; 32]) {
+    let answer = told.answer;
+    count(cameras, answer.number() as usize, 1);
+    count(cameras, FOUND, told.count);
+    count(cameras, ALL, 1);
 }
 
 // The answer, which for an accepted frame is listed as 0, and the sides; with a refusal no corners.

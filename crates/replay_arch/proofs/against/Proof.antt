@@ -1,6 +1,6 @@
 -- `replay_arch::against` meets its contract: eight shares lie in the second list. Assumes nothing.
-use Prim.Native.Nat.{_*_, _-_, _≤_}
 use mathlib.Core.Path.{_≡_}
+use Prim.Native.Nat.{_*_, _-_, _≤_}
 use native.Mathlib.Omega.{arith}
 use lib.ListN.{length, length-append, length-take, length-drop}
 use borrow.Author.Needs.{needs}
@@ -8,10 +8,10 @@ use Rattle.replay_arch.proofs.against.Statement.{statement}
 use Rattle.replay_arch.proofs.against.Tie as tie
 
 abbrev Inv-loop : tie.InvT-loop
-Inv-loop frames s due cameras₀ list told size second₀ all₀ a₀ i₀ cameras second all a i = (i ≤ 8) × (a ≤ 128 * i) × (length second ≡ 1024)
+Inv-loop n frames s due cameras₀ told list size second₀ all₀ a₀ i₀ cameras second all a i = (i ≤ 8) × (a ≤ 128 * i) × (length second ≡ 1024)
 
 abbrev μ-loop : tie.MeasureT-loop
-μ-loop frames s due cameras₀ list told size second₀ all₀ a₀ i₀ cameras second all a i = 8 - i
+μ-loop n frames s due cameras₀ told list size second₀ all₀ a₀ i₀ cameras second all a i = 8 - i
 
 field-requires : tie.Need-field-requires Inv-loop μ-loop
 field-requires c κs = search needs
@@ -22,8 +22,11 @@ capped-requires c κs = search needs
 old-numbers-requires : tie.Need-old-numbers-requires Inv-loop μ-loop
 old-numbers-requires c κs = search needs
 
-own-requires : tie.Need-own-requires Inv-loop μ-loop
-own-requires c κs = search needs
+skip-requires : tie.Need-skip-requires Inv-loop μ-loop
+skip-requires c κs = search needs
+
+nothing-requires : tie.Need-nothing-requires Inv-loop μ-loop
+nothing-requires c κs = search needs
 
 loop-holds : tie.Need-loop-holds Inv-loop μ-loop
 loop-holds c = search needs
@@ -91,7 +94,8 @@ against-spec =
     field-requires
     capped-requires
     old-numbers-requires
-    own-requires
+    skip-requires
+    nothing-requires
     loop-holds
     add-e
     mul-camera
