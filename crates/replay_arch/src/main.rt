@@ -239,7 +239,8 @@ fn nothing(at: usize) -> Compared {
     }
 }
 
-// A camera, which counts or is beyond the arch's, against what is listed and, where its frame lies whole and is not too long for that, against a single call with its share.
+// A camera against what is listed; and, where its frame lies whole and is not too long for that, against a single call with its share. It counts if
+// it is one of the arch's.
 fn camera(
     told: Outcome,
     counts: bool,
@@ -280,16 +281,21 @@ fn listed(told: Outcome, s: &[u8], at: usize) -> Compared {
         vectors::differ(told.w as u64, vectors::field(s, at, 4)),
         vectors::differ(told.h as u64, vectors::field(s, at, 8)),
     );
-    let head = if number <= 1 {
-        vectors::differ(0, vectors::word(s, at))
-    } else {
-        vectors::plus(
-            vectors::differ(number, vectors::word(s, at)),
-            vectors::differ(told.count as u64, 0),
-        )
-    };
+    let due = vectors::word(s, at);
+    let next = vectors::skip(s, at, 12);
+    if number <= 1 {
+        return Compared {
+            next,
+            wrong: vectors::plus(vectors::differ(0, due), sides),
+            values: 3,
+        };
+    }
+    let head = vectors::plus(
+        vectors::differ(number, due),
+        vectors::differ(told.count as u64, 0),
+    );
     Compared {
-        next: vectors::skip(s, at, 12),
+        next,
         wrong: vectors::plus(head, sides),
         values: 4,
     }
