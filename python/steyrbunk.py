@@ -14,6 +14,8 @@ Then
     steyrbunk.draw("dawn.png", image, corners)
     kept = steyrbunk.write_record(corners, corners.width, corners.height)  # bytes, to be read back years later
     corners, width, height = steyrbunk.read_record(kept)                   # every number as it was
+    for found in finder.arch(files):                 # all cameras of an arch in one call: their frame files
+        print("refused" if isinstance(found, steyrbunk.Refused) else len(found))
 
 A refusal raises `Refused`, with the documents' number and its words; there is no list then, and none from before.
 What is proved is the library behind the call; this file is not, and is tested by running it.
@@ -21,6 +23,7 @@ What is proved is the library behind the call; this file is not, and is tested b
 
 import array
 import ctypes
+import itertools
 import os
 import struct
 import zlib
@@ -45,12 +48,16 @@ WORDS = {
     7: "the suppression radius is over 32",
     8: "the threshold is not a number from 0 to 1",
     9: "a lent buffer is too short",
+    11: "the frame file has under 20 bytes",
+    12: "the frame file's version is not 1",
+    13: "the frame file does not have the length that it states",
     14: "the mode is neither 0 (parabolic) nor 1 (Gaussian)",
     16: "the record has under 13 bytes or not the length that it states",
     17: "the record's version is not 1",
     18: "the record's count and length disagree, or there are over 8,388,608 corners",
     19: "a number of the list is not finite",
     20: "the output is too short",
+    21: "the camera count is not 2 to 8, or the list has less than one corner a camera",
 }
 
 DEFAULTS = {
@@ -68,6 +75,8 @@ _LARGEST_SIDE = 4096
 _LARGEST_WORKING = 8388608
 _LARGEST_RECORD = 8388608
 _RECORD_HEAD, _RECORD_CORNER = 13, 12
+_FRAME_LEAD, _FRAME_HEAD = 5, 20
+_MOST_CAMERAS = 8
 _FIRST_ROOM = 1024
 
 
@@ -151,6 +160,7 @@ class Finder:
     """Finds corners in one image after another and keeps its buffers, 25 bytes a working pixel. Not for two threads at a time."""
 
     def __init__(self, library=None):
+        self._library = library
         self._find = _entry(library, "steyrbunk_find")
         self._entries = 0
         self._buffers = self._made(0)
@@ -182,9 +192,7 @@ class Finder:
         while True:
             told = _Told()
             arguments = [lent, ctypes.c_size_t(len(pixels)), ctypes.c_size_t(width), ctypes.c_size_t(height), *numbers]
-            for buffer in self._buffers + [self._list]:
-                arguments += [buffer, ctypes.c_size_t(len(buffer))]
-            answer = self._find(*arguments, *told.arguments())
+            answer = self._find(*arguments, *self._lend(), *told.arguments())
             count, *sides = told.values()
             if answer == 1:
                 self._room(count)
@@ -192,6 +200,44 @@ class Finder:
             if answer != 0:
                 raise Refused(answer)
             return Found(_corners(self._list[: 3 * count]), *sides)
+
+    def arch(self, frames, cameras=None):
+        """All cameras of an arch in one call: for each a Found, or a Refused where its frame is refused, which stops no other.
+        `frames` is a list of frame files, or bytes in which `cameras` of them stand end to end. Either way a frame begins after
+        the length that the one before it states, so a file that is not as long as it states shifts those behind it."""
+        if isinstance(frames, (list, tuple)):
+            if cameras not in (None, len(frames)):
+                raise ValueError(f"there are {len(frames)} files, not {cameras}")
+            frames, cameras = b"".join(frames), len(frames)
+        elif cameras is None:
+            raise TypeError("frame files end to end need their number")
+        if cameras < 0:
+            raise ValueError("the camera count is below 0")
+        frames, known = _flat(memoryview(frames)), min(cameras, _MOST_CAMERAS + 1)
+        for file in itertools.islice(_whole_files(frames), _MOST_CAMERAS):
+            if len(file) >= _FRAME_HEAD:
+                self._prepare(len(file) - _FRAME_HEAD, *struct.unpack_from(">HH", file, 5), file[10])
+        call, lent, room = _entry(self._library, "steyrbunk_arch"), _slice(ctypes.c_uint8, frames), _FIRST_ROOM
+        while True:
+            if len(self._list) < 3 * known * room:
+                self._room(known * room)
+            told = ((ctypes.c_size_t * 4) * _MOST_CAMERAS)()
+            answer = call(ctypes.c_size_t(known), *lent, *self._lend(), told)
+            if answer != 0:
+                raise Refused(answer)
+            full = [count for number, count, *_ in told if number == 1]
+            if not full:
+                return [self._camera(i, known, *told[i]) for i in range(known)]
+            room = max(full)
+
+    def _camera(self, i, cameras, answer, count, width, height):
+        """What camera i found in its share of the list, or why it was refused."""
+        share = i * (len(self._list) // 3 // cameras * 3)
+        return Refused(answer) if answer else Found(_corners(self._list[share : share + 3 * count]), width, height)
+
+    def _lend(self):
+        """The buffers and the list as arguments, each with its length."""
+        return [part for buffer in self._buffers + [self._list] for part in (buffer, ctypes.c_size_t(len(buffer)))]
 
     @staticmethod
     def _whole(settings, name):
@@ -209,6 +255,16 @@ class Finder:
         if working > self._entries:
             self._buffers, self._entries = self._made(0), 0
             self._buffers, self._entries = self._made(working), working
+
+
+def _whole_files(frames):
+    """The frame files at the beginning of a view that lie whole in it, each as long as it states."""
+    while len(frames) >= _FRAME_LEAD:
+        length = _FRAME_LEAD + int.from_bytes(frames[1:_FRAME_LEAD], "big")
+        if length > len(frames):
+            break
+        yield frames[:length]
+        frames = frames[length:]
 
 
 def write_record(corners, width, height, library=None):

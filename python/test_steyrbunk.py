@@ -1,4 +1,4 @@
-"""Runs steyrbunk.py: document 01's frame, a board against the fitters' command, every refusal, other buffers, records, drawings.
+"""Runs steyrbunk.py: document 01's frame, a board against the fitters' command, every refusal, other buffers, arches, records, drawings.
 
 usage: test_steyrbunk.py COMMAND FOLDER    the built command `steyrbunk`, and an empty folder
 """
@@ -112,6 +112,64 @@ wrong(ValueError, finder.find, FRAME, -7, -7)
 wrong(ValueError, finder.find, FRAME, 7, 7, ray_radius=-1)
 wrong(ValueError, finder.find, FRAME, 7, 7, ray_radius=1.5)
 wrong(ValueError, finder.find, FRAME, 7, 7, peak_fit="cubic")
+
+# Arches: every camera as a call of its own, in a list that grows; refusals stop nobody.
+def frame_file(image, width, height, ray=1, upsample=1, blur=0, fit=0, nms=1, least=2, threshold=0.28):
+    after = struct.pack(">HHBBBBBHf", width, height, ray, upsample, blur, fit, nms, least, threshold) + image
+    return struct.pack(">BI", 1, len(after)) + after
+
+
+def results(arch):
+    return [each.number if isinstance(each, steyrbunk.Refused) else (each, each.width, each.height) for each in arch]
+
+
+small, large = frame_file(FRAME, 7, 7), frame_file(board, width, height, 4, 2, 1, 1, 4)
+one, all_of_it = (corner, 7, 7), (finder.find(board, width, height), 2 * width, 2 * height)
+check(results(finder.arch([small, small])), [one, one])
+for count in range(2, 9):
+    files = [large if i % 3 == 1 else small for i in range(count)]
+    expected = [all_of_it if i % 3 == 1 else one for i in range(count)]
+    for fresh in (True, False):
+        if fresh:
+            finder, steyrbunk._FIRST_ROOM = steyrbunk.Finder(), 1
+            finder._room(1)
+        check(results(finder.arch(files)), expected)
+    steyrbunk._FIRST_ROOM = 1024
+    joined = b"".join(files)
+    for frames in (joined, bytearray(joined), memoryview(joined), array.array("B", joined), joined + b"left over"):
+        check(results(finder.arch(frames, count)), expected)
+    check(results(finder.arch(tuple(files), count)), expected)
+    check(results(finder.arch(joined[:-1], count)), expected[:-1] + [13])
+    check(results(finder.arch(joined[: len(joined) - len(files[-1]) + 4], count)), expected[:-1] + [11])
+    check(results(finder.arch(b"", count)), count * [11])
+    check(results(finder.arch(joined[:1] + 4 * b"\xff" + joined[5:], count)), [13] + (count - 1) * [11])
+check(finder.find(FRAME, 7, 7, **SETTINGS), corner)
+refusals = {
+    2: frame_file(b"", 4097, 0),
+    3: frame_file(FRAME, 7, 6),
+    4: frame_file(bytes(2048 * 2048), 2048, 2048, upsample=2),
+    5: frame_file(FRAME, 7, 7, ray=8),
+    6: frame_file(FRAME, 7, 7, blur=4),
+    7: frame_file(FRAME, 7, 7, nms=33),
+    8: frame_file(FRAME, 7, 7, threshold=float("nan")),
+    11: b"\1\0\0\0\x0e" + bytes(14),
+    12: b"\2" + small[1:],
+    14: frame_file(FRAME, 7, 7, fit=2),
+}
+for number, file in refusals.items():
+    check(results(finder.arch([small, file, small])), [one, number, one])
+told = finder.arch([refusals[12], refusals[5]])
+check([(each.number, each.words) for each in told], [(12, steyrbunk.WORDS[12]), (5, steyrbunk.WORDS[5])])
+for count in (0, 1, 9, 2**64 + 2):
+    refused(21, finder.arch, 2 * small, count)
+refused(21, finder.arch, [])
+refused(21, finder.arch, [small])
+refused(21, finder.arch, 9 * [small])
+wrong(TypeError, finder.arch, 2 * small)
+wrong(TypeError, finder.arch, "text", 2)
+wrong(TypeError, finder.arch, 2 * small, 2.5)
+wrong(ValueError, finder.arch, [small, small], 3)
+wrong(ValueError, finder.arch, 2 * small, -1)
 
 # Records: one written out, every bit back, and the same bytes as the command's, both ways.
 check(steyrbunk.write_record(found, found.width, found.height), bytes.fromhex("01 00000014 0007 0007 00000001 40400000 40400000 481C4000"))

@@ -27,6 +27,18 @@ pub record SameLengths (b c : Buffers) : Type 0 where
   pub scratch : length (c .map .scratch) ≡ length (b .map .scratch)
   pub list : length (c .list) ≡ length (b .list)
 
+pub same-lengths : (b : Buffers) → SameLengths b b
+same-lengths b = record {
+  working = refl;
+  row = refl;
+  col = refl;
+  falling = refl;
+  rising = refl;
+  response = refl;
+  scratch = refl;
+  list = refl;
+}
+
 -- a part of a list is replaced by one as long
 length-back : {A : Type 0} (a k : ℕ) (l z : List A) → length z ≡ length (take k (drop a l))
     → length (take a l ++ (z ++ drop k (drop a l))) ≡ length l
@@ -57,7 +69,7 @@ module _ (frames : List ℕ) (size cameras : ℕ) (b : Buffers) where
     rest = refl;
     left = refl;
     tells = ap (replicate 8) is ∙ filled-zero _ _;
-    long = record { working = refl; row = refl; col = refl; falling = refl; rising = refl; response = refl; scratch = refl; list = refl };
+    long = same-lengths b;
   }
 
   -- camera i's share lies in the list
@@ -115,8 +127,8 @@ module _ (frames : List ℕ) (size cameras : ℕ) (b : Buffers) where
     pub next-in : {n : ℕ} → n ≡ goneBy (dueIn rest) (length rest) → at + n ≤ length frames
     next-in gone = next-inside frames i (ran .inside) (ran .rest) (rw all at gone)
 
-    same-lengths : {d : Buffers} → SameLengths given d → SameLengths b (returned d)
-    same-lengths {d} s =
+    lengths-back : {d : Buffers} → SameLengths given d → SameLengths b (returned d)
+    lengths-back {d} s =
         let l = ran .long in
         record {
           working = s .working ∙ l .working;
@@ -134,7 +146,7 @@ module _ (frames : List ℕ) (size cameras : ℕ) (b : Buffers) where
     ran-turn tell leave gone long =
         let whole : part ≡ size = omega arith in
         rw whole
-        (ran-more ran goes (rw (all, whole) at tell) (rw (all, whole) at leave) (rw all at gone) (rw whole at (same-lengths long)))
+        (ran-more ran goes (rw (all, whole) at tell) (rw (all, whole) at leave) (rw all at gone) (rw whole at (lengths-back long)))
 
   pub ran-all : {c : Buffers} {out : List Outcome} {at i : ℕ} → Ran frames size cameras b c out at i → cameras ≤ i
       → (out ≡ filled cameras (told frames size b) (replicate 8 noFrame)) × (c ≡ leftBy frames size b cameras)

@@ -27,10 +27,10 @@ fn stated_in(rest: &[u8]) -> usize
 pub fn due_in(rest: &[u8]) -> Due
     ensures { λ r. ⌜ r ≡ dueIn (now (rest .entry)) ⌝ }
 {
+    let stated = stated_in(rest);
     if rest.len() < LEAD {
         return Due::Refused(Answer::FileTooShort);
     }
-    let stated = stated_in(rest);
     if rest.len() - LEAD < stated {
         return Due::Refused(Answer::StatedLength);
     }

@@ -1,4 +1,4 @@
--- A row that another function fills, over a part `&mut out[a..e]` of the buffer: what comes back is the buffer with that part put in its place.
+-- Parts of a list. A row that another function fills, over a part `&mut out[a..e]` of the buffer: what comes back is the buffer with that part put in its place.
 -- Assumes nothing.
 use mathlib.Core.Path.{_≡_, refl, sym, ap, _∙_}
 use Prim.Native.Nat.{ℕ, zero, suc, _+_, _-_, _*_, _≤_, _<_}
@@ -14,6 +14,12 @@ use Rattle.grid.proofs.Plane.{plane-at, next-row}
 use Rattle.grid.proofs.Loops.{Rows}
 
 module _ {ℓ} {A : Type ℓ} where
+  -- a part is a part of what is taken
+  pub part-taken : (n k : ℕ) (l : List A) → take k (drop n l) ≡ drop n (take (n + k) l)
+  part-taken zero k l = rw zero-add
+  part-taken (suc n) k [] = rw (suc-add, take-nil)
+  part-taken (suc n) k (x ∷ xs) = rw suc-add (part-taken n k xs)
+
   front : (k : ℕ) (f : ℕ → A) (xs : List A) → filled k f (take k xs) ++ drop k xs ≡ filled k f xs
   unfolding filled
   front zero f xs = refl

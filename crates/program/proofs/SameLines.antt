@@ -4,14 +4,15 @@ use mathlib.Core.Path.{_≡_, refl, sym, ap, _∙_}
 use mathlib.Core.Logic.{_⊎_, inl, inr}
 use mathlib.Core.List.{List, [], _∷_}
 use Prim.Native.Nat.{ℕ, zero, suc, _+_, _-_, _*_, _≤_, _<_}
-use native.Mathlib.Nat.{zero-add, suc-add, mul-suc}
+use native.Mathlib.Nat.{mul-suc}
 use native.Mathlib.Omega.{arith}
 use borrow.Author.Tests.{lt-ltb, le-ltb}
 use lib.Ieee.{Float}
 use lib.ListN.{length, take, drop, length-take, replicate, length-replicate}
-use lib.Seq.{take-nil, take-take, take-all}
+use lib.Seq.{take-take, take-all}
 use Rattle.grid.specs.Over.{written}
 use Rattle.grid.proofs.Over.{length-over}
+use Rattle.grid.proofs.Part.{part-taken}
 use Rattle.float.specs.Values.{f0}
 use Rattle.params.specs.declared.answers.Outcome.{Outcome}
 use Rattle.params.specs.declared.settings.RadonDetectorParams.{RadonDetectorParams}
@@ -29,11 +30,6 @@ use Rattle.program.specs.Program.{limit, blank, linesOver, linesOf}
 
 -- ---- the lines of a list: they are those of the numbers that are stored
 
-take-drop : (k s : ℕ) (l : List Float) → take k (drop s l) ≡ drop s (take (s + k) l)
-take-drop k zero l = rw zero-add
-take-drop k (suc s) [] = rw (suc-add, take-nil)
-take-drop k (suc s) (x ∷ xs) = rw suc-add (take-drop k s xs)
-
 corner-lines : (stride n : ℕ) (l m : List Float) → take (stride * n) l ≡ take (stride * n) m → cornerLines stride n l ≡ cornerLines stride n m
 unfolding cornerLines
 corner-lines stride zero l m e = refl
@@ -43,7 +39,7 @@ corner-lines stride (suc n) l m e =
     let opens : (k : List Float) → take stride (take (stride * suc n) k) ≡ take stride k = λ k. take-take stride (stride * suc n) k within in
     let one : take stride l ≡ take stride m = sym (opens l) ∙ ap (take stride) e ∙ opens m in
     let rest : take (stride * n) (drop stride l) ≡ take (stride * n) (drop stride m) =
-    rw (take-drop (stride * n) stride l, take-drop (stride * n) stride m, all, e) in
+    rw (part-taken stride (stride * n) l, part-taken stride (stride * n) m, all, e) in
     rw (one, corner-lines stride n (drop stride l) (drop stride m) rest)
 
 printed-same : (o : Outcome) (l m : List Float) → length l ≡ length m

@@ -1,5 +1,6 @@
 //! `bench`: each pass, map, list and whole, ours and the Rust's two builds, on the same frames in one run.
 
+mod arch;
 mod clock;
 mod frames;
 mod pass;
@@ -23,6 +24,7 @@ const HELP: &str = "\
 bench times the proved finder against the published Rust, one thread each, and prints Markdown.
 
   bench [--repeats N] [--picture NAME] [--largest WIDTH]
+  bench [--repeats N] [--picture NAME] [--largest WIDTH] --arch
   bench [--repeats N] --scalars
   bench --distances
 
@@ -30,6 +32,7 @@ bench times the proved finder against the published Rust, one thread each, and p
   --picture NAME    what the frames show: panel (default; a turned board, twenty cells across), board
                     (small cells), noise or flat
   --largest WIDTH   leaves out frames that are wider
+  --arch            times arches of 2, 4 and 8 cameras beside their single calls instead
   --scalars         times root and logarithm beside the platform's instead
   --distances       measures instead how far these lie apart, over every f32 of their ranges
 
@@ -45,6 +48,7 @@ const SIZES: [(usize, usize); 4] = [(640, 480), (1_280, 960), (2_048, 1_024), (4
 #[derive(Clone, Copy, PartialEq)]
 enum Ask {
     Table,
+    Arch,
     Scalars,
     Distances,
 }
@@ -69,6 +73,7 @@ fn options(mut words: Words) -> Result<Options, Usage> {
         };
         match flag.as_str() {
             "--repeats" => options.repeats = words.value::<usize>(&flag, "a number")?.max(1),
+            "--arch" => options.ask = Ask::Arch,
             "--scalars" => options.ask = Ask::Scalars,
             "--distances" => options.ask = Ask::Distances,
             "--largest" => options.largest = words.value(&flag, "a width")?,
@@ -196,6 +201,7 @@ fn main() -> ExitCode {
         let options = options(words)?;
         match options.ask {
             Ask::Table => run(&options),
+            Ask::Arch => arch::times(options.repeats, &options.picture, options.largest),
             Ask::Scalars => scalars::times(options.repeats),
             Ask::Distances => scalars::distances(),
         }

@@ -80,6 +80,12 @@ pub enum Difference {
         theirs: String,
         ours: String,
     },
+    /// The first line of a camera's outcome that is not a single call's, as it would be printed; counted from 1.
+    Camera {
+        line: usize,
+        single: String,
+        arch: String,
+    },
     /// The first corner that differs.
     Corner {
         index: usize,
@@ -136,6 +142,12 @@ impl fmt::Display for Difference {
                 write!(
                     out,
                     "line {line}: the Rust's would be '{theirs}', the program prints '{ours}'"
+                )
+            }
+            Difference::Camera { line, single, arch } => {
+                write!(
+                    out,
+                    "line {line}: a single call's would be '{single}', the arch's is '{arch}'"
                 )
             }
             Difference::Alone {

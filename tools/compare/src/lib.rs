@@ -11,5 +11,5 @@ pub use difference::{Difference, What};
 pub use gaussian::{Class, Distances, BOUND, CURVATURES};
 pub use pair::{Held, Pair};
 pub use program::Program;
-pub use source::{Job, Source};
+pub use source::{Job, Makes, Opened, Source};
 pub use summary::Summary;

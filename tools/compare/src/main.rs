@@ -6,7 +6,7 @@ use std::process::ExitCode;
 use std::sync::{mpsc, Mutex};
 use std::thread;
 
-use compare::{Held, Job, Pair, Program, Source, Summary, BOUND};
+use compare::{Held, Job, Makes, Opened, Pair, Program, Source, Summary, BOUND};
 use console::{say, Progress, Usage, Word, Words};
 use frames::{settings_help, Named};
 use judge::Sizes;
@@ -17,10 +17,14 @@ compare runs the published Rust and the proved finder over the same frames.
   compare [OPTIONS] [SETTINGS] PATH...               PGM pictures, frame files, folders of both
   compare [OPTIONS] --archive FILE...                frame files end to end in each file
   compare [OPTIONS] --seed S --count N [--first I]   frames made from a seed, index I to I+N-1
+  compare [OPTIONS] --arch --seed S --count N [--first I]   arches of 2 to 8 made frames
 
 Answers, working image, tables, map, scratch and list must be equal to the bit. Only the places of
 Gaussian corners may differ: by the bound divided by the peak's curvature (the second difference of
 three logarithms) in working pixels, at most by one pixel, and by one step of an f32.
+Each camera of an arch must be told and given what a single call with its frame is, to the bit, and
+that call is held against the Rust; a tenth of the frames are damaged, and some arches are cut, state
+lengths past their end or have bytes behind them.
 
   --program PATH   runs the proved program `corners` too, which `rt check corners` leaves in
                    target/bin/corners: what it prints must be the Rust's list as document 01 has it
@@ -30,7 +34,7 @@ three logarithms) in working pixels, at most by one pixel, and by one step of an
   --bound B        the bound for Gaussian places (default 5e-6)
   --lists          prints both lists of each frame
   --each           prints a line for each made frame; for files this is done anyway
-  --keep FOLDER    writes each frame that differs into the folder
+  --keep FOLDER    writes each frame that differs, or its arch, into the folder
   --threads N      default 2
 
 The status is 0 if nothing differs that may not, 1 if something does, a file could not be read or
@@ -47,6 +51,7 @@ struct Options {
     keep: Option<PathBuf>,
     program: Option<Program>,
     threads: usize,
+    arch: bool,
     /// What could not be looked into.
     problems: Vec<String>,
 }
@@ -59,6 +64,7 @@ fn options(mut words: Words) -> Result<(Options, Source), Usage> {
         keep: None,
         program: None,
         threads: 2,
+        arch: false,
         problems: Vec::new(),
     };
     let (mut seed, mut count, mut first, mut sizes) = (None, None, 0, Sizes::PROGRAM);
@@ -84,6 +90,7 @@ fn options(mut words: Words) -> Result<(Options, Source), Usage> {
             "--threads" => options.threads = words.value(&flag, "a number")?,
             "--archive" => archive = true,
             "--damaged" => damaged = true,
+            "--arch" => options.arch = true,
             "--program" => {
                 let path = words.path(&flag, "the program `corners`")?;
                 options.program = Some(Program { path });
@@ -92,9 +99,17 @@ fn options(mut words: Words) -> Result<(Options, Source), Usage> {
             _ => return Usage::wrong(format!("{flag} is not known")),
         }
     }
+    let what = match (options.arch, damaged) {
+        (false, false) => Makes::Frames,
+        (false, true) => Makes::Damaged,
+        (true, _) => Makes::Arches,
+    };
+    if options.arch && (damaged || options.program.is_some() || seed.is_none()) {
+        return Usage::wrong("--arch is for made frames, and neither for --damaged nor --program");
+    }
     let source = match (seed, count, paths.is_empty()) {
         (Some(seed), Some(count), true) if !archive => {
-            Source::made(seed, first, count, sizes, damaged)
+            Source::made(seed, first, count, sizes, what)
         }
         (None, None, false) if archive => Source::archives(&paths),
         (None, None, false) => {
@@ -117,25 +132,53 @@ struct Line {
     lost: Option<String>,
 }
 
-fn hold(pair: &mut Pair, mut job: Job, keep: Option<&Path>) -> Line {
-    let name = job.name();
-    let mut lost = None;
-    let held = job.open().map(|file| {
-        let held = pair.hold(&file);
-        if let Some(folder) = keep.filter(|_| !held.differences.is_empty()) {
-            let path = folder.join(job.file_name());
-            lost = fs::write(&path, file)
-                .err()
-                .map(|error| format!("{}: {error}", path.display()));
+impl Line {
+    fn of(name: String, held: Result<Held, String>) -> Line {
+        Line {
+            name,
+            held,
+            lost: None,
         }
-        held
-    });
-    Line { name, held, lost }
+    }
+
+    fn differs(&self) -> bool {
+        self.held
+            .as_ref()
+            .is_ok_and(|held| !held.differences.is_empty())
+    }
+}
+
+/// The frame of a job, or each camera of its arch.
+fn hold(pair: &mut Pair, mut job: Job, keep: Option<&Path>) -> Vec<Line> {
+    let name = job.name();
+    let (bytes, mut lines) = match job.open() {
+        Err(error) => return vec![Line::of(name, Err(error))],
+        Ok(Opened::Frame(file)) => {
+            let held = pair.hold(&file);
+            (file, vec![Line::of(name, Ok(held))])
+        }
+        Ok(Opened::Arch(cameras, frames)) => {
+            let held = pair.hold_arch(cameras, &frames).into_iter().enumerate();
+            let line = |(i, held)| Line::of(format!("{name}, camera {i}"), Ok(held));
+            let lines = held.map(line).collect();
+            (frames, lines)
+        }
+    };
+    let first = lines.iter_mut().find(|line| line.differs());
+    if let Some((folder, line)) = keep.zip(first) {
+        let path = folder.join(job.file_name());
+        let written = fs::write(&path, bytes);
+        line.lost = written
+            .err()
+            .map(|error| format!("{}: {error}", path.display()));
+    }
+    lines
 }
 
 /// Workers take shares of the frames; what they find is told in the frames' order.
 fn run(options: &Options, source: Source) -> Summary {
-    let mut progress = Progress::new(source.total(), "frames");
+    let things = if options.arch { "arches" } else { "frames" };
+    let mut progress = Progress::new(source.total(), things);
     let source = Mutex::new((0u64, source));
     let (sender, receiver) = mpsc::sync_channel(64);
     let mut summary = Summary::default();
@@ -155,7 +198,7 @@ fn run(options: &Options, source: Source) -> Summary {
                         break;
                     }
                     let keep = options.keep.as_deref();
-                    let lines: Vec<Line> = jobs
+                    let lines: Vec<Vec<Line>> = jobs
                         .into_iter()
                         .map(|job| hold(&mut pair, job, keep))
                         .collect();
@@ -167,18 +210,20 @@ fn run(options: &Options, source: Source) -> Summary {
         }
         drop(sender);
         let mut waiting = std::collections::BTreeMap::new();
-        let mut next = 1;
-        for (number, lines) in receiver {
-            waiting.insert(number, lines);
-            while let Some(lines) = waiting.remove(&next) {
+        let (mut next, mut done) = (1, 0);
+        for (number, jobs) in receiver {
+            waiting.insert(number, jobs);
+            while let Some(jobs) = waiting.remove(&next) {
                 next += 1;
-                for line in lines {
-                    tell(options, &line, &mut summary, &mut progress);
+                done += jobs.len() as u64;
+                for line in jobs.iter().flatten() {
+                    tell(options, line, &mut summary, &mut progress);
                 }
                 let note = format!(", {} differ", summary.differ);
-                progress.show(summary.frames + summary.unread, &note);
+                progress.show(done, &note);
             }
         }
+        summary.arches = if options.arch { done } else { 0 };
     });
     progress.clear();
     let seconds = progress.seconds();

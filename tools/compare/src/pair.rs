@@ -2,7 +2,7 @@
 
 use std::fmt;
 
-use judge::{accepted, original, sums, Detector, Room};
+use judge::{accepted, dues, original, sums, Detector, Room};
 use steyrbunk::frame::Frame;
 use steyrbunk::{printed, Corner, Finder, Found, Map, PeakFit, Refusal};
 
@@ -38,6 +38,40 @@ impl Held {
             printed(&self.ours)
         )
     }
+
+    /// What a camera was told, beside what a single call with its frame was.
+    fn with_camera(mut self, ours: Result<Found, Refusal>) -> Held {
+        let (single, arch) = (printed(&self.ours), printed(&ours));
+        let line = |text: &str, at| text.lines().nth(at).unwrap_or_default().to_string();
+        let lines = 0..single.lines().count().max(arch.lines().count());
+        let differs = |at| {
+            let (single, arch) = (line(&single, at), line(&arch, at));
+            (single != arch).then_some(Difference::Camera {
+                line: at + 1,
+                single,
+                arch,
+            })
+        };
+        self.differences.extend(lines.into_iter().find_map(differs));
+        self.ours = ours;
+        self
+    }
+
+    /// A camera whose frame is not whole: the documents alone say what it is told.
+    fn refused(number: u32, ours: Result<Found, Refusal>) -> Held {
+        Held {
+            theirs: Err(number),
+            differences: answers(number, &ours).into_iter().collect(),
+            ours,
+            distances: Distances::default(),
+        }
+    }
+}
+
+/// Where a program does not give the other's answer; 0 where it takes the frame.
+fn answers(theirs: u32, ours: &Result<Found, Refusal>) -> Option<Difference> {
+    let ours = ours.as_ref().err().map_or(0, |refusal| refusal.number());
+    (theirs != ours).then_some(Difference::Answer { theirs, ours })
 }
 
 impl fmt::Display for Held {
@@ -99,10 +133,7 @@ impl Pair {
             }
             _ => {
                 let theirs = theirs.as_ref().err().copied().unwrap_or(0);
-                let ours = ours.as_ref().err().map_or(0, |refusal| refusal.number());
-                if theirs != ours {
-                    differences.push(Difference::Answer { theirs, ours });
-                }
+                differences.extend(answers(theirs, &ours));
             }
         }
         if let Some(program) = &self.program {
@@ -121,6 +152,21 @@ impl Pair {
             differences,
             distances,
         }
+    }
+
+    /// Each camera of an arch: as a single call with its frame, to the bit, and that against the Rust.
+    pub fn hold_arch(&mut self, cameras: usize, frames: &[u8]) -> Vec<Held> {
+        let ours = self.ours.arch(cameras, frames);
+        let ours = ours.expect("a camera count that is taken");
+        let camera = |(due, ours)| match due {
+            Ok(file) => self.hold(file).with_camera(ours),
+            Err(number) => Held::refused(number, ours),
+        };
+        dues(cameras, frames)
+            .into_iter()
+            .zip(ours)
+            .map(camera)
+            .collect()
     }
 
     /// The original's list, and how its map differs from ours if there is one.
@@ -239,6 +285,44 @@ mod tests {
     use steyrbunk::{Image, Settings};
 
     use super::*;
+
+    /// What a camera is told must be what a single call is, every bit of it.
+    #[test]
+    fn a_camera_is_as_a_single_call() {
+        let file = judge::document_frame().bytes();
+        let mut pair = Pair::new(0.0);
+        let mut camera = |ours| pair.hold(&file).with_camera(ours).differences;
+        let right = Found {
+            corners: vec![Corner {
+                x: 3.0,
+                y: 3.0,
+                strength: 160_000.0,
+            }],
+            width: 7,
+            height: 7,
+        };
+        assert_eq!(camera(Ok(right.clone())), []);
+        let mut wrong = vec![right.clone(); 4];
+        wrong[0].corners[0].y = f32::from_bits(0x4040_0001);
+        wrong[1].corners.clear();
+        wrong[2].corners.push(right.corners[0]);
+        wrong[3].height = 8;
+        for (wrong, line) in wrong.into_iter().zip([2, 1, 1, 1]) {
+            match camera(Ok(wrong)).as_slice() {
+                [Difference::Camera { line: at, .. }] => assert_eq!(*at, line),
+                other => panic!("{other:?}"),
+            }
+        }
+        assert_eq!(camera(Err(Refusal::Mode)).len(), 1);
+        assert!(Held::refused(13, Err(Refusal::StatedLength))
+            .differences
+            .is_empty());
+        let answer = Difference::Answer {
+            theirs: 13,
+            ours: 0,
+        };
+        assert_eq!(Held::refused(13, Ok(right)).differences, [answer]);
+    }
 
     /// One entry changed in each buffer in turn: it is found where it stands, and named.
     #[test]

@@ -6,9 +6,9 @@ use std::io::{self, BufReader, Read};
 use std::path::{Path, PathBuf};
 
 use console::{shown, LONGEST};
-use frames::{Kind, Named, Problem};
-use judge::{damaged, made, Sizes};
-use steyrbunk::frame::{bytes, stated_length, LEAD};
+use frames::{Kind, Named};
+use judge::{damaged, made, made_arch, Sizes};
+use steyrbunk::frame::{stated_length, LEAD};
 
 /// A frame that is still to be opened, so that this can be done beside other work.
 pub enum Job {
@@ -22,6 +22,12 @@ pub enum Job {
         seed: u64,
         index: u64,
     },
+    /// An arch of made frames, some of them damaged.
+    Arch {
+        seed: u64,
+        index: u64,
+        sizes: Sizes,
+    },
     /// A frame file, or a picture with the settings of the call.
     File(PathBuf, Named),
     /// A frame of an archive, or why there is none.
@@ -32,11 +38,19 @@ pub enum Job {
     },
 }
 
+/// What a job holds.
+pub enum Opened {
+    Frame(Vec<u8>),
+    /// The camera count, and the frame files end to end.
+    Arch(usize, Vec<u8>),
+}
+
 impl Job {
     pub fn name(&self) -> String {
         match self {
             Job::Made { seed, index, .. } => format!("seed {seed}, index {index}"),
             Job::Damaged { seed, index } => format!("seed {seed}, index {index}, damaged"),
+            Job::Arch { seed, index, .. } => format!("seed {seed}, arch {index}"),
             Job::File(path, _) => shown(path),
             Job::Entry {
                 archive, number, ..
@@ -44,7 +58,7 @@ impl Job {
         }
     }
 
-    /// A name for a copy of the frame.
+    /// A name for a copy of the frame or arch.
     pub fn file_name(&self) -> PathBuf {
         let stem = |path: &Path| {
             path.file_stem()
@@ -56,6 +70,7 @@ impl Job {
             Job::Made { seed, index, .. } | Job::Damaged { seed, index } => {
                 format!("{seed}-{index:07}.frame").into()
             }
+            Job::Arch { seed, index, .. } => format!("{seed}-{index:07}.arch").into(),
             Job::File(path, _) => format!("{}.frame", stem(path)).into(),
             Job::Entry {
                 archive, number, ..
@@ -63,17 +78,22 @@ impl Job {
         }
     }
 
-    pub fn open(&mut self) -> Result<Vec<u8>, String> {
-        match self {
-            Job::Made { seed, index, sizes } => Ok(made(*seed, *index, *sizes).frame.bytes()),
-            Job::Damaged { seed, index } => Ok(damaged(*seed, *index)),
+    pub fn open(&mut self) -> Result<Opened, String> {
+        let file = match self {
+            Job::Made { seed, index, sizes } => made(*seed, *index, *sizes).frame.bytes(),
+            Job::Damaged { seed, index } => damaged(*seed, *index),
+            Job::Arch { seed, index, sizes } => {
+                let (cameras, frames) = made_arch(*seed, *index, *sizes);
+                return Ok(Opened::Arch(cameras, frames));
+            }
             Job::File(path, named) => match console::read(path, LONGEST) {
-                Ok(Some(file)) => framed(path, file, named),
-                Ok(None) => Err(format!("over {LONGEST} bytes, longer than any frame")),
-                Err(error) => Err(error.to_string()),
+                Ok(Some(file)) => framed(path, file, named)?,
+                Ok(None) => return Err(format!("over {LONGEST} bytes, longer than any frame")),
+                Err(error) => return Err(error.to_string()),
             },
-            Job::Entry { file, .. } => std::mem::replace(file, Ok(Vec::new())),
-        }
+            Job::Entry { file, .. } => std::mem::replace(file, Ok(Vec::new()))?,
+        };
+        Ok(Opened::Frame(file))
     }
 }
 
@@ -90,8 +110,16 @@ struct Making {
     next: u64,
     end: u64,
     sizes: Sizes,
-    /// Whether every second file is damaged.
-    damaged: bool,
+    what: Makes,
+}
+
+/// What is made of a seed.
+#[derive(Clone, Copy, PartialEq)]
+pub enum Makes {
+    Frames,
+    /// Frames of which every second file is damaged.
+    Damaged,
+    Arches,
 }
 
 /// Both programs read frame files: a picture becomes one, with the settings of the call. What is neither is no frame.
@@ -104,9 +132,8 @@ fn framed(path: &Path, file: Vec<u8>, named: &Named) -> Result<Vec<u8>, String> 
         _ if is_named_frame => Ok(file),
         _ => {
             let frame = frames::open(path, &file, named, false);
-            let frame = frame.map_err(|problem: Problem| format!("not a frame: {problem}"))?;
-            let text = "not a frame: a frame file has no room for such sizes or settings";
-            bytes(&frame).ok_or_else(|| text.to_string())
+            let made = frame.and_then(|frame| frames::file(&frame));
+            made.map_err(|problem| format!("not a frame: {problem}"))
         }
     }
 }
@@ -115,14 +142,14 @@ fn framed(path: &Path, file: Vec<u8>, named: &Named) -> Result<Vec<u8>, String> 
 const SHARE: usize = 64;
 
 impl Source {
-    pub fn made(seed: u64, first: u64, count: u64, sizes: Sizes, damaged: bool) -> Source {
+    pub fn made(seed: u64, first: u64, count: u64, sizes: Sizes, what: Makes) -> Source {
         let end = first.saturating_add(count);
         let made = Making {
             seed,
             next: first,
             end,
             sizes,
-            damaged,
+            what,
         };
         Source::of(Vec::new(), Some(made), Vec::new())
     }
@@ -183,14 +210,12 @@ impl Source {
             let index = making.next;
             making.next += 1;
             let Making {
-                seed,
-                sizes,
-                damaged,
-                ..
+                seed, sizes, what, ..
             } = *making;
-            return Some(match damaged && index % 2 == 1 {
-                true => Job::Damaged { seed, index },
-                false => Job::Made { seed, index, sizes },
+            return Some(match what {
+                Makes::Arches => Job::Arch { seed, index, sizes },
+                Makes::Damaged if index % 2 == 1 => Job::Damaged { seed, index },
+                _ => Job::Made { seed, index, sizes },
             });
         }
         self.queue.pop_front().or_else(|| self.entry())

@@ -8,6 +8,8 @@ use crate::pair::Held;
 
 #[derive(Default)]
 pub struct Summary {
+    /// Arches, whose cameras count as frames.
+    pub arches: u64,
     pub frames: u64,
     pub differ: u64,
     /// Frames that could not be read.
@@ -84,7 +86,14 @@ impl fmt::Display for Summary {
             corners,
             ..
         } = self;
+        let documents = match self.arches {
+            0 => "document 01",
+            _ => "documents 01 and 02",
+        };
         let refused: u64 = self.refused.values().sum();
+        if self.arches > 0 {
+            writeln!(out, "{} arches, each camera a frame:", self.arches)?;
+        }
         writeln!(
             out,
             "{frames} frames: {} agreed, {differ} differ, {unread} could not be read",
@@ -92,7 +101,7 @@ impl fmt::Display for Summary {
         )?;
         writeln!(
             out,
-            "the Rust: {} with {corners} corners, {refused} refused by document 01",
+            "the Rust: {} with {corners} corners, {refused} refused by {documents}",
             frames - refused
         )?;
         if refused > 0 {

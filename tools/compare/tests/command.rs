@@ -4,7 +4,7 @@ use std::fs;
 use std::path::{Path, PathBuf};
 use std::process::{Command, Output};
 
-use judge::{document_frame, make};
+use judge::{document_frame, made_arch, make, Sizes};
 
 /// An empty folder for one test.
 fn folder(name: &str) -> PathBuf {
@@ -75,6 +75,41 @@ fn differences() {
     let differ = text.matches("DIFFERS").count();
     assert!(text.contains(&format!("{differ} differ")));
     assert_eq!(fs::read_dir(folder.join("kept")).unwrap().count(), differ);
+}
+
+/// Arches, each camera a line; a difference names the arch and the camera, and the arch is kept.
+#[test]
+fn arches() {
+    let folder = folder("arches");
+    let (text, status) = run(
+        &folder,
+        &["--arch", "--seed", "33", "--count", "200", "--each"],
+    );
+    assert_eq!(status, 0, "{text}");
+    assert!(text.contains("200 arches, each camera a frame:\n"));
+    let cameras = text.matches(": agreed, ").count();
+    assert!(
+        cameras > 600 && text.contains(&format!("{cameras} frames: {cameras} agreed, 0 differ"))
+    );
+    for index in 0..200 {
+        let last = made_arch(33, index, Sizes::PROGRAM).0 - 1;
+        assert!(text.contains(&format!("seed 33, arch {index}, camera {last}: agreed")));
+    }
+    for number in [11, 13] {
+        assert!(text.contains(&format!("agreed, refused {number}\n")));
+    }
+    let words = [
+        "--arch", "--seed", "1", "--count", "60", "--bound", "-1", "--keep", "kept",
+    ];
+    let (text, status) = run(&folder, &words);
+    assert_eq!(status, 1);
+    let line = text.lines().find(|line| line.contains("DIFFERS")).unwrap();
+    let index = line.strip_prefix("seed 1, arch ").unwrap();
+    let (index, camera) = index.split_once(", camera ").unwrap();
+    assert!(camera.split_once(':').unwrap().0.parse::<usize>().unwrap() < 8);
+    let index: u64 = index.parse().unwrap();
+    let kept = fs::read(folder.join(format!("kept/1-{index:07}.arch"))).unwrap();
+    assert_eq!(kept, made_arch(1, index, Sizes::PROGRAM).1);
 }
 
 #[test]
@@ -235,6 +270,8 @@ fn wrong_words() {
         &["--seed", "1"],
         &["--seed", "1", "--count", "1", "x"],
         &["--seed", "x"],
+        &["--arch", "x"],
+        &["--arch", "--seed", "1", "--count", "1", "--damaged"],
     ] {
         assert_eq!(run(&folder, words), (String::new(), 2), "{words:?}");
     }

@@ -5,7 +5,7 @@ use std::process::ExitCode;
 
 use console::{no_terminal, shown, Usage, LONGEST};
 use frames::{Kind, Problem};
-use steyrbunk::frame::{bytes, Frame};
+use steyrbunk::frame::Frame;
 
 use crate::gather::INPUT;
 use crate::options::FrameCall;
@@ -41,9 +41,7 @@ fn made(call: &FrameCall) -> Result<Vec<u8>, Problem> {
         return Err(Problem::Damaged("is a frame file already".to_string()));
     }
     let frame = frames::open(&call.picture, &file, &call.named, false)?;
-    let made = bytes(&frame).ok_or_else(|| {
-        Problem::Damaged("a frame file has no room for such sizes or settings".to_string())
-    })?;
+    let made = frames::file(&frame)?;
     for limit in exceeded(&frame, made.len()) {
         eprintln!("{}: note: {limit}", shown(&call.picture));
     }

@@ -5,6 +5,7 @@ use std::path::{absolute, Path, PathBuf};
 use std::{fs, io};
 
 use console::{shown, Usage};
+use steyrbunk::arch;
 
 use crate::options::Place;
 use crate::site;
@@ -22,9 +23,36 @@ pub struct Frame {
     pub shown: String,
     /// Its name below the folder that was named: its results begin with it.
     pub name: PathBuf,
+    /// The number of its camera in an arch, from 1.
+    pub camera: Option<usize>,
 }
 
 impl Frame {
+    /// Its path as a word of a message.
+    pub fn spoken(&self) -> &Path {
+        self.path.as_deref().unwrap_or(Path::new(INPUT_NAME))
+    }
+
+    /// Whose list or message it is, for a person.
+    pub fn told(&self) -> String {
+        match self.camera {
+            Some(camera) => format!("camera {camera}: {}", self.shown),
+            None => self.shown.clone(),
+        }
+    }
+
+    /// The same for a camera of an arch, whose number goes behind the name: two cameras may have files of one name, or one file.
+    fn of_camera(&self, camera: usize) -> Frame {
+        let mut name = self.name.clone().into_os_string();
+        name.push(format!(".{camera}"));
+        Frame {
+            path: self.path.clone(),
+            shown: self.shown.clone(),
+            name: name.into(),
+            camera: Some(camera),
+        }
+    }
+
     /// Where it is read from, as a whole path.
     pub fn whole_path(&self) -> Vec<u8> {
         let path = self.path.as_deref().unwrap_or(Path::new(INPUT));
@@ -69,16 +97,30 @@ pub fn gather(
             ..Group::default()
         });
     }
-    for path in paths {
-        let found = look(source, path, paths.len() > 1);
+    for (at, path) in paths.iter().enumerate() {
+        let mut found = look(source, path, paths.len() > 1);
+        if let Source::Arch(cameras) = source {
+            found.number(at, cameras);
+        }
         match place {
             Some(Place::Beside) => beside(&mut groups, path, found)?,
             _ => groups[0].join(found),
         }
     }
+    if source.is_arch() {
+        return one(groups);
+    }
     groups.iter_mut().for_each(Group::order);
     groups.iter().try_for_each(distinct)?;
     Ok(groups)
+}
+
+/// An arch is answered in one call, and has one manifest.
+fn one(groups: Vec<Group>) -> Result<Vec<Group>, Usage> {
+    match groups.len() {
+        1 => Ok(groups),
+        _ => Usage::wrong("--beside wants all files of an arch in one folder; try --out"),
+    }
 }
 
 impl Group {
@@ -92,6 +134,19 @@ impl Group {
     pub fn sources(&self) -> impl Iterator<Item = PathBuf> + '_ {
         let paths = self.frames.iter().filter_map(|frame| frame.path.as_ref());
         paths.filter_map(|path| fs::canonicalize(path).ok())
+    }
+
+    /// Gives a file of an arch its camera, by its place in the call, or all cameras that it is to hold. Where that is a number
+    /// of cameras that is refused, it stands for as many as can be told of.
+    fn number(&mut self, at: usize, together: Option<usize>) {
+        let cameras = match together {
+            Some(cameras) => 1..=cameras.clamp(1, arch::MOST),
+            None => at + 1..=at + 1,
+        };
+        let file = &self.frames;
+        self.frames = cameras
+            .flat_map(|camera| file.iter().map(move |frame| frame.of_camera(camera)))
+            .collect();
     }
 
     /// By name; a frame that was named twice is taken once where it has results.
@@ -112,17 +167,21 @@ fn look(source: Source, path: &Path, several: bool) -> Group {
                 path: None,
                 shown: "standard input".to_string(),
                 name: INPUT_NAME.into(),
+                camera: None,
             }],
             ..Group::default()
         };
     }
-    if !fs::metadata(path).is_ok_and(|data| data.is_dir()) {
-        let name = path.file_name().map_or_else(|| path.into(), PathBuf::from);
+    if source.is_arch() || !fs::metadata(path).is_ok_and(|data| data.is_dir()) {
+        let name = path
+            .file_name()
+            .map_or_else(|| own_name(path), PathBuf::from);
         return Group {
             frames: vec![Frame {
                 path: Some(path.into()),
                 shown: shown(path),
                 name,
+                camera: None,
             }],
             problems: unfinished(source, &[folder_of(path)]),
             ..Group::default()
@@ -139,6 +198,7 @@ fn look(source: Source, path: &Path, several: bool) -> Group {
         shown: shown(&file),
         name: front.join(file.strip_prefix(path).unwrap_or(&file)),
         path: Some(file),
+        camera: None,
     };
     let mut problems: Vec<String> = found
         .unread
@@ -170,7 +230,7 @@ fn unfinished(source: Source, folders: &[PathBuf]) -> Vec<String> {
     };
     let folders = folders.iter().filter(|folder| site::is_unfinished(folder));
     match source {
-        Source::Frames => Vec::new(),
+        Source::Frames | Source::Arch(_) => Vec::new(),
         Source::Records => folders.map(told).collect(),
     }
 }

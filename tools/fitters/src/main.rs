@@ -1,5 +1,6 @@
 //! `steyrbunk`: the fitters' command.
 
+mod cameras;
 mod digest;
 mod draw;
 mod frame_file;
@@ -64,14 +65,14 @@ impl Run<'_> {
         for note in &done.notes {
             let once = note.starts_with("note: ");
             if !once || !self.noted {
-                self.tell(&format!("{}: {note}", frame.shown));
+                self.tell(&format!("{}: {note}", frame.told()));
             }
             self.noted |= once;
         }
         self.failed += u64::from(!matches!(done.record.end, End::Found { .. }));
         if !written {
             if self.several && self.options.format == Format::List {
-                say(&format!("# {}\n", frame.shown));
+                say(&format!("# {}\n", frame.told()));
             }
             put(&done.text);
         }
@@ -91,7 +92,7 @@ impl Run<'_> {
                 results: Ok(Vec::new()),
             })
             .collect();
-        say(self.options.format.head());
+        say(self.options.format.head(self.options.source));
         let mut frames = group.frames.iter();
         work::work(self.options, None, &planned, |done| {
             let frame = frames.next().expect("a frame for each that is told of");
@@ -173,6 +174,7 @@ impl Run<'_> {
             records.push(Record {
                 name: earlier.name.clone(),
                 path: earlier.path.clone(),
+                camera: None,
                 read: None,
                 end,
                 results: Vec::new(),
@@ -205,7 +207,7 @@ impl Run<'_> {
                 record.end = End::Problem(error.into());
             }
         }
-        records.sort_by(|a, b| a.name.cmp(&b.name));
+        records.sort_by(|a, b| (a.camera, &a.name).cmp(&(b.camera, &b.name)));
         let results: Vec<PathBuf> = records
             .iter()
             .flat_map(|record| record.results.clone())
@@ -216,10 +218,10 @@ impl Run<'_> {
             replace,
             ..
         } = self.options;
-        // A record does not know with which settings its frame was searched.
+        // A record does not know with which settings its frame was searched; frames end to end have their own.
         let settings = match source {
-            Source::Frames => Some(named.over(Settings::default())),
-            Source::Records => None,
+            Source::Frames | Source::Arch(None) => Some(named.over(Settings::default())),
+            Source::Records | Source::Arch(Some(_)) => None,
         };
         let (problems, records) = (&group.problems, records.iter().collect::<Vec<_>>());
         let text = record::manifest(self.started, settings, *replace, problems, &records);
@@ -241,7 +243,7 @@ fn list(options: &Options) -> Result<ExitCode, Usage> {
         options,
         started,
         progress: Progress::new(Some(total), options.source.things()),
-        several: total > 1,
+        several: total > 1 || options.source.is_arch(),
         frames: 0,
         failed: 0,
         problems: 0,
@@ -292,7 +294,7 @@ fn alone(total: u64) -> Result<(), Usage> {
 /// The files of a call that may be results of an earlier run: records, and never frames.
 fn sources(source: Source, groups: &[Group]) -> BTreeSet<PathBuf> {
     match source {
-        Source::Frames => BTreeSet::new(),
+        Source::Frames | Source::Arch(_) => BTreeSet::new(),
         Source::Records => groups.iter().flat_map(Group::sources).collect(),
     }
 }

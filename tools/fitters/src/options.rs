@@ -18,6 +18,8 @@ const HELP: &str = "\
 steyrbunk finds the corners of chessboard panels in camera frames.
 
   steyrbunk [OPTIONS] PATH...
+  steyrbunk arch [OPTIONS] FILE FILE...        all cameras of an arch in one call
+  steyrbunk arch [OPTIONS] --cameras N FILE
   steyrbunk read [OPTIONS] PATH...             the lists of records that were kept
   steyrbunk frame [SETTINGS] PICTURE > FILE    the frame file of a picture
 
@@ -45,6 +47,15 @@ Output
 SETTINGS
   --override                 puts the settings named in the call over those of frame files
 
+steyrbunk arch takes two to eight files, pictures or frame files, each a camera's, in the order in
+which they are named; or, with --cameras, one file with the frame files of N cameras end to end,
+which have their own settings. Each camera is printed with its number, as a list or as refused, in
+every format: list has a line '# camera I: FILE' before each; csv the columns camera, file, answer,
+words, corner, x, y, strength, and one line for a camera without corners; json a field camera.
+Results are NAME.I.corners and so on; --beside wants all files in one folder. A file that is no
+whole frame file and no picture is answered as it is alone, and the other cameras are found as ever.
+A number of cameras that is not 2 to 8 is refused, 21.
+
 steyrbunk read prints the lists of records as those of their frames, in every format and by the same
 rules, but for what a record does not have: the frame's name (the record's stands in its place), the
 settings, and the picture, so that --draw and settings are wrong words there. A damaged record is
@@ -69,7 +80,7 @@ error; 2 if the words of the call are wrong.
 
 /// What is asked for.
 pub enum Call {
-    /// The lists of frames, or of records.
+    /// The lists of frames, of records, or of the cameras of an arch.
     List(Options),
     Frame(FrameCall),
     Version,
@@ -134,6 +145,9 @@ pub fn call(mut words: Words) -> Result<Call, Usage> {
             Word::Path(path) if first && path.as_os_str() == "read" => {
                 options.source = Source::Records;
             }
+            Word::Path(path) if first && path.as_os_str() == "arch" => {
+                options.source = Source::Arch(None);
+            }
             Word::Path(path) => options.paths.push(path),
             Word::Flag(flag) if flag == "--version" => return Ok(Call::Version),
             Word::Flag(flag) => options.flag(&flag, &mut words)?,
@@ -143,6 +157,7 @@ pub fn call(mut words: Words) -> Result<Call, Usage> {
     match options.source {
         Source::Frames => options.suit_frames()?,
         Source::Records => options.suit_records()?,
+        Source::Arch(together) => options.suit_arch(together)?,
     }
     Ok(Call::List(options))
 }
@@ -176,6 +191,24 @@ impl Options {
         Ok(())
     }
 
+    /// Frame files end to end go to the library as they stand.
+    fn suit_arch(&self, together: Option<usize>) -> Result<(), Usage> {
+        if self.paths.is_empty() {
+            return Usage::wrong("arch wants a file a camera; the folder of that name is ./arch");
+        }
+        if together.is_some() && self.paths.len() > 1 {
+            return Usage::wrong("--cameras wants one file, with the frame files end to end");
+        }
+        if together.is_some() && self.are_settings_named() {
+            return Usage::wrong("settings do not go with --cameras: frame files have their own");
+        }
+        self.suit_frames()
+    }
+
+    fn are_settings_named(&self) -> bool {
+        self.named != Named::default() || self.replace
+    }
+
     /// A record has neither a picture nor settings.
     fn suit_records(&self) -> Result<(), Usage> {
         if self.paths.is_empty() {
@@ -186,7 +219,7 @@ impl Options {
         if !self.drawings.is_empty() {
             return Usage::wrong("--draw does not go with read: a record has no picture");
         }
-        if self.named != Named::default() || self.replace {
+        if self.are_settings_named() {
             return Usage::wrong("settings do not go with read: the corners are found already");
         }
         Ok(())
@@ -212,6 +245,12 @@ impl Options {
                     self.drawings.push(drawing);
                 }
             }
+            "--cameras" => match &mut self.source {
+                Source::Arch(together) => {
+                    *together = Some(words.value(flag, "a number of cameras")?);
+                }
+                _ => return Usage::wrong("--cameras goes with arch alone"),
+            },
             "--jobs" => match words.value(flag, "a number from 1 up")? {
                 0 => return Usage::wrong("--jobs wants a number from 1 up, not '0'"),
                 jobs => self.jobs = jobs,

@@ -7,6 +7,9 @@ use steyrbunk::{printed, record, Corner, Found, Refusal};
 use console::json as quoted;
 use frames::Problem;
 
+use crate::gather::Frame;
+use crate::source::Source;
+
 #[derive(Clone, Copy, PartialEq, Eq)]
 pub enum Format {
     List,
@@ -15,7 +18,9 @@ pub enum Format {
     Record,
 }
 
-pub const CSV_HEAD: &str = "file,corner,x,y,strength\n";
+const CSV_HEAD: &str = "file,corner,x,y,strength\n";
+/// Of an arch each camera has its answer in the table, and a line even without a corner.
+const ARCH_CSV_HEAD: &str = "camera,file,answer,words,corner,x,y,strength\n";
 
 impl Format {
     pub fn from_name(name: &str) -> Option<Format> {
@@ -39,64 +44,105 @@ impl Format {
     }
 
     /// What goes before all lists that share a file or standard output.
-    pub fn head(self) -> &'static str {
+    pub fn head(self, source: Source) -> &'static str {
         match self {
+            Format::Csv if source.is_arch() => ARCH_CSV_HEAD,
             Format::Csv => CSV_HEAD,
             _ => "",
         }
     }
 
     /// The list of one frame.
-    pub fn list(self, name: &str, found: &Found) -> Result<Vec<u8>, Refusal> {
+    pub fn list(self, frame: &Frame, found: &Found) -> Result<Vec<u8>, Refusal> {
         let text = match self {
             Format::List => printed(&Ok(found.clone())),
-            Format::Csv => csv(name, &found.corners),
-            Format::Json => json(name, found),
+            Format::Csv => csv(frame, &found.corners),
+            Format::Json => json(frame, found),
             Format::Record => return record::bytes(found),
         };
         Ok(text.into_bytes())
     }
 
-    /// What stands in the place of a list that there is not; neither CSV nor a record has a word for it.
-    pub fn problem(self, name: &str, problem: &Problem) -> String {
-        let file = quoted(name.as_bytes());
-        match (self, problem.refusal()) {
-            (Format::List, Some(refusal)) => printed(&Err(refusal)),
-            (Format::Json, Some(refusal)) => {
+    /// What stands in the place of a list that there is not; a record has no word for it, and CSV only for a camera of an arch.
+    pub fn problem(self, frame: &Frame, problem: &Problem) -> String {
+        match (self, problem.refusal(), frame.camera) {
+            (Format::List, Some(refusal), None) => printed(&Err(refusal)),
+            (Format::List, Some(refusal), Some(_)) => format!("{refusal}\n"),
+            (Format::List, None, Some(_)) => format!("no list: {problem}\n"),
+            (Format::Json, Some(refusal), _) => {
                 let (number, reason) = (refusal.number(), quoted(refusal.sentence().as_bytes()));
-                format!("{{\"file\":{file},\"refused\":{number},\"reason\":{reason}}}\n")
+                let whose = whose(frame);
+                format!("{{{whose},\"refused\":{number},\"reason\":{reason}}}\n")
             }
-            (Format::Json, None) => {
+            (Format::Json, None, _) => {
                 let error = quoted(problem.to_string().as_bytes());
-                format!("{{\"file\":{file},\"error\":{error}}}\n")
+                format!("{{{},\"error\":{error}}}\n", whose(frame))
+            }
+            (Format::Csv, Some(refusal), Some(camera)) => {
+                let answer = refusal.number().to_string();
+                without_corner(&answered(camera, frame, &answer, refusal.sentence()))
+            }
+            (Format::Csv, None, Some(camera)) => {
+                without_corner(&answered(camera, frame, "", &problem.to_string()))
             }
             _ => String::new(),
         }
     }
 }
 
-fn csv(name: &str, corners: &[Corner]) -> String {
-    let file = if name.contains([',', '"', '\n', '\r']) {
-        format!("\"{}\"", name.replace('"', "\"\""))
-    } else {
-        name.to_string()
+/// A line a corner, with what tells the frame in front.
+fn csv(frame: &Frame, corners: &[Corner]) -> String {
+    let front = match frame.camera {
+        Some(camera) => answered(camera, frame, "0", ""),
+        None => field(&frame.shown),
     };
+    if corners.is_empty() && frame.camera.is_some() {
+        return without_corner(&front);
+    }
     let mut text = String::new();
     for (at, Corner { x, y, strength }) in corners.iter().enumerate() {
-        writeln!(text, "{file},{at},{x},{y},{strength}").expect("a string takes all");
+        writeln!(text, "{front},{at},{x},{y},{strength}").expect("a string takes all");
     }
     text
 }
 
+/// The fields of a camera of an arch, with the words of a refusal or of what else went wrong.
+fn answered(camera: usize, frame: &Frame, answer: &str, words: &str) -> String {
+    let (file, words) = (field(&frame.shown), field(words));
+    format!("{camera},{file},{answer},{words}")
+}
+
+fn without_corner(front: &str) -> String {
+    format!("{front},,,,\n")
+}
+
+/// Text as a field of CSV.
+fn field(text: &str) -> String {
+    if text.contains([',', '"', '\n', '\r']) {
+        format!("\"{}\"", text.replace('"', "\"\""))
+    } else {
+        text.to_string()
+    }
+}
+
+/// The fields that tell whose a JSON object is.
+fn whose(frame: &Frame) -> String {
+    let file = quoted(frame.shown.as_bytes());
+    match frame.camera {
+        Some(camera) => format!("\"camera\":{camera},\"file\":{file}"),
+        None => format!("\"file\":{file}"),
+    }
+}
+
 /// One line: an f32 is printed so that it reads back the same.
-fn json(name: &str, found: &Found) -> String {
+fn json(frame: &Frame, found: &Found) -> String {
     let corner = |Corner { x, y, strength }: &Corner| {
         format!("{{\"x\":{x},\"y\":{y},\"strength\":{strength}}}")
     };
     let corners: Vec<String> = found.corners.iter().map(corner).collect();
     format!(
-        "{{\"file\":{},\"working_width\":{},\"working_height\":{},\"count\":{},\"corners\":[{}]}}\n",
-        quoted(name.as_bytes()),
+        "{{{},\"working_width\":{},\"working_height\":{},\"count\":{},\"corners\":[{}]}}\n",
+        whose(frame),
         found.width,
         found.height,
         corners.len(),

@@ -13,6 +13,8 @@ pub struct Record {
     pub name: Vec<u8>,
     /// Where it was read from, a whole path.
     pub path: Vec<u8>,
+    /// Its camera's number in an arch.
+    pub camera: Option<usize>,
     pub read: Option<Read>,
     pub end: End,
     pub results: Vec<PathBuf>,
@@ -20,6 +22,7 @@ pub struct Record {
 }
 
 /// The bytes that were read.
+#[derive(Clone)]
 pub struct Read {
     pub bytes: usize,
     pub sha256: String,
@@ -48,6 +51,9 @@ impl Record {
             format!("\"name\":{}", json(&self.name)),
             format!("\"path\":{}", json(&self.path)),
         ];
+        if let Some(camera) = self.camera {
+            fields.push(format!("\"camera\":{camera}"));
+        }
         if let Some(read) = &self.read {
             fields.push(format!("\"bytes\":{}", read.bytes));
             fields.push(format!("\"sha256\":{}", json(read.sha256.as_bytes())));

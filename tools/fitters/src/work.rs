@@ -5,9 +5,10 @@ use std::path::{Path, PathBuf};
 use std::sync::atomic::{AtomicUsize, Ordering};
 use std::sync::mpsc;
 use std::thread;
-use std::time::Instant;
+use std::time::{Duration, Instant};
 
 use frames::{Kind, Named, Problem};
+use steyrbunk::frame::Frame as Opened;
 use steyrbunk::{record, Finder, Found, Image, Refusal};
 
 use crate::digest::sha256;
@@ -27,10 +28,36 @@ pub struct Done {
     pub notes: Vec<String>,
 }
 
+impl Done {
+    /// Nothing yet.
+    pub fn new(frame: &Frame) -> Done {
+        Done {
+            record: Record {
+                name: frame.name.as_os_str().as_encoded_bytes().to_vec(),
+                path: frame.whole_path(),
+                camera: frame.camera,
+                read: None,
+                end: End::Gone,
+                results: Vec::new(),
+                time: Duration::ZERO,
+            },
+            text: Vec::new(),
+            notes: Vec::new(),
+        }
+    }
+}
+
 /// A frame with the results that it is to have, or why it can have none.
 pub struct Planned<'a> {
     pub frame: &'a Frame,
     pub results: Result<Vec<PathBuf>, String>,
+}
+
+impl Planned<'_> {
+    pub fn results(&self) -> Result<&[PathBuf], Problem> {
+        let results = self.results.as_deref();
+        results.map_err(|text| Problem::Damaged(text.clone()))
+    }
 }
 
 /// Takes up all frames; `tell` hears of each in their order.
@@ -40,17 +67,22 @@ pub fn work(
     planned: &[Planned],
     mut tell: impl FnMut(Done),
 ) {
+    let worker = || Worker {
+        options,
+        site,
+        finder: Finder::new(),
+    };
+    if let Source::Arch(together) = options.source {
+        let all = worker().arch(together, planned);
+        return all.into_iter().for_each(tell);
+    }
     let next = AtomicUsize::new(0);
     let (sender, receiver) = mpsc::channel();
     thread::scope(|scope| {
         for _ in 0..options.jobs.clamp(1, planned.len().max(1)) {
-            let (sender, next) = (sender.clone(), &next);
+            let (sender, next, worker) = (sender.clone(), &next, &worker);
             scope.spawn(move || {
-                let mut worker = Worker {
-                    options,
-                    site,
-                    finder: Finder::new(),
-                };
+                let mut worker = worker();
                 loop {
                     let at = next.fetch_add(1, Ordering::Relaxed);
                     let Some(planned) = planned.get(at) else {
@@ -74,30 +106,25 @@ pub fn work(
     });
 }
 
-struct Worker<'a> {
+pub struct Worker<'a> {
     options: &'a Options,
     site: Option<&'a Site>,
-    finder: Finder,
+    pub finder: Finder,
 }
 
 impl Worker<'_> {
     fn take_up(&mut self, planned: &Planned) -> Done {
         let started = Instant::now();
-        let frame = planned.frame;
-        let mut done = Done {
-            record: Record {
-                name: frame.name.as_os_str().as_encoded_bytes().to_vec(),
-                path: frame.whole_path(),
-                read: None,
-                end: End::Gone,
-                results: Vec::new(),
-                time: started.elapsed(),
-            },
-            text: Vec::new(),
-            notes: Vec::new(),
-        };
-        let format = self.options.format;
-        done.record.end = match self.outcome(planned, &mut done) {
+        let mut done = Done::new(planned.frame);
+        let outcome = self.outcome(planned, &mut done);
+        self.end(planned.frame, outcome, &mut done);
+        done.record.time = started.elapsed();
+        done
+    }
+
+    /// How a frame ended; where it has no list, what was written of it is taken back.
+    pub fn end(&self, frame: &Frame, outcome: Result<Found, Problem>, done: &mut Done) {
+        done.record.end = match outcome {
             Ok(found) => End::Found {
                 width: found.width,
                 height: found.height,
@@ -112,46 +139,55 @@ impl Worker<'_> {
                     done.record.results.clear();
                 }
                 done.notes.push(problem.to_string());
-                done.text = format.problem(&frame.shown, &problem).into_bytes();
+                done.text = self.options.format.problem(frame, &problem).into_bytes();
                 End::Problem(problem)
             }
         };
-        done.record.time = started.elapsed();
-        done
     }
 
     /// Reads, finds, draws and writes.
     fn outcome(&mut self, planned: &Planned, done: &mut Done) -> Result<Found, Problem> {
-        let results = planned
-            .results
-            .as_ref()
-            .map_err(|text| Problem::Damaged(text.clone()))?;
-        let Options { source, format, .. } = self.options;
-        let path = planned.frame.path.as_deref();
-        let file = source.read(path)?;
+        planned.results()?;
+        let file = self.read(planned.frame, done)?;
+        let (found, image) = match self.options.source {
+            Source::Records => (record::parse(&file)?, None),
+            _ => self.found(planned.frame, &file, done)?,
+        };
+        self.hand_on(planned, found, image, done)
+    }
+
+    /// The bytes of a frame's file.
+    pub fn read(&self, frame: &Frame, done: &mut Done) -> Result<Vec<u8>, Problem> {
+        let file = self.options.source.read(frame.path.as_deref())?;
         done.record.read = Some(Read {
             bytes: file.len(),
             sha256: sha256(&file),
             settings: None,
         });
-        let (found, image) = match source {
-            Source::Frames => self.found(path.unwrap_or("stdin".as_ref()), &file, done)?,
-            Source::Records => (record::parse(&file)?, None),
-        };
-        done.text = format.list(&planned.frame.shown, &found)?;
-        if let Some(site) = self.site {
-            self.write(site, results, image, &found, done)?;
-        }
-        Ok(found)
+        Ok(file)
     }
 
     /// The corners of a frame, and its picture.
     fn found<'a>(
         &mut self,
-        path: &Path,
+        frame: &Frame,
         file: &'a [u8],
         done: &mut Done,
     ) -> Result<(Found, Option<Image<'a>>), Problem> {
+        let Opened { image, settings } = self.opened(frame, file, done)?;
+        let found = self.finder.find(image, &settings);
+        let found =
+            found.map_err(|refusal| directed(advised(refusal, Some(image)), frame.spoken()))?;
+        Ok((found, Some(image)))
+    }
+
+    /// The picture in a file with the settings that it is searched with.
+    pub fn opened<'a>(
+        &self,
+        frame: &Frame,
+        file: &'a [u8],
+        done: &mut Done,
+    ) -> Result<Opened<'a>, Problem> {
         let Options { named, replace, .. } = self.options;
         let own = frames::kind(file) == Kind::Frame;
         if own && !*replace && *named != Named::default() {
@@ -159,14 +195,29 @@ impl Worker<'_> {
                 "note: a frame file has its own settings; --override replaces them".to_string(),
             );
         }
-        let frame = frames::open(path, file, named, *replace);
-        let frame = frame.map_err(|problem| directed(problem, path))?;
+        let path = frame.spoken();
+        let opened = frames::open(path, file, named, *replace);
+        let opened = opened.map_err(|problem| directed(problem, path))?;
         if let Some(read) = &mut done.record.read {
-            read.settings = own.then_some(frame.settings);
+            read.settings = own.then_some(opened.settings);
         }
-        let found = self.finder.find(frame.image, &frame.settings);
-        let found = found.map_err(|refusal| directed(advised(refusal, frame.image), path))?;
-        Ok((found, Some(frame.image)))
+        Ok(opened)
+    }
+
+    /// What was found, as text and into the folder.
+    pub fn hand_on(
+        &self,
+        planned: &Planned,
+        found: Found,
+        image: Option<Image>,
+        done: &mut Done,
+    ) -> Result<Found, Problem> {
+        let results = planned.results()?;
+        done.text = self.options.format.list(planned.frame, &found)?;
+        if let Some(site) = self.site {
+            self.write(site, results, image, &found, done)?;
+        }
+        Ok(found)
     }
 
     /// The list into the folder, and the drawings where there is a picture.
@@ -179,9 +230,12 @@ impl Worker<'_> {
         done: &mut Done,
     ) -> Result<(), Problem> {
         let Options {
-            format, drawings, ..
+            source,
+            format,
+            drawings,
+            ..
         } = self.options;
-        let list = [format.head().as_bytes(), &done.text].concat();
+        let list = [format.head(*source).as_bytes(), &done.text].concat();
         let mut written = |result: &PathBuf, content: &[u8]| {
             done.record.results.push(result.clone());
             site.write(result, content)
@@ -210,7 +264,7 @@ fn drawn(drawing: &Drawing, image: Image, found: &Found) -> Vec<u8> {
 }
 
 /// A record looks like a frame file by its first byte; its name tells what it is.
-fn directed(problem: Problem, path: &Path) -> Problem {
+pub fn directed(problem: Problem, path: &Path) -> Problem {
     match problem {
         Problem::Refused(refusal) if path.extension() == Some(record::ENDING.as_ref()) => {
             Problem::Advised(refusal, "a record is printed by steyrbunk read")
@@ -220,9 +274,9 @@ fn directed(problem: Problem, path: &Path) -> Problem {
 }
 
 /// A frame that is too large doubled may do as it is.
-fn advised(refusal: Refusal, image: Image) -> Problem {
-    match refusal {
-        Refusal::TooManyPixels if image.pixels.len() <= limits::WORKING => {
+pub fn advised(refusal: Refusal, image: Option<Image>) -> Problem {
+    match (refusal, image) {
+        (Refusal::TooManyPixels, Some(image)) if image.pixels.len() <= limits::WORKING => {
             Problem::Advised(refusal, "--image-upsample 1 would do")
         }
         _ => Problem::Refused(refusal),

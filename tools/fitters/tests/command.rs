@@ -81,6 +81,15 @@ fn refused() -> Vec<u8> {
     .bytes()
 }
 
+/// Document 01's frame without its corner.
+fn blank() -> Vec<u8> {
+    Frame {
+        pixels: vec![0; 49],
+        ..document_frame()
+    }
+    .bytes()
+}
+
 /// The names in a folder that begin with a frame's, its own not among them.
 fn results(folder: &Path, frame: &str) -> Vec<String> {
     let names = fs::read_dir(folder).unwrap();
@@ -809,6 +818,454 @@ fn long_records() {
     fs::remove_dir_all(&folder).unwrap();
 }
 
+/// Four cameras by the names of their files, which are not in order: a list, a refusal, a picture's list, an empty list.
+fn four_cameras() -> [(&'static str, Vec<u8>); 4] {
+    [
+        ("d.frame", document_frame().bytes()),
+        ("b.frame", refused()),
+        ("a.pgm", pgm(&document_frame())),
+        ("c.frame", blank()),
+    ]
+}
+
+/// What is printed of them, in each format.
+fn four_printed() -> [(&'static str, String); 3] {
+    let list = |camera: u32, file: &str| {
+        format!(
+            "{{\"camera\":{camera},\"file\":\"{file}\",\"working_width\":7,\"working_height\":7,"
+        )
+    };
+    let json = [
+        list(1, "d.frame") + "\"count\":1,\"corners\":[{\"x\":3,\"y\":3,\"strength\":160000}]}\n",
+        "{\"camera\":2,\"file\":\"b.frame\",\"refused\":5,\"reason\":\"the ray radius is over 7\"}\n"
+            .to_string(),
+        list(3, "a.pgm") + "\"count\":1,\"corners\":[{\"x\":3,\"y\":3,\"strength\":160000}]}\n",
+        list(4, "c.frame") + "\"count\":0,\"corners\":[]}\n",
+    ];
+    [
+        (
+            "list",
+            format!(
+                "# camera 1: d.frame\n{DOCUMENT}# camera 2: b.frame\nrefused 5: the ray radius is over 7\n\
+                 # camera 3: a.pgm\n{DOCUMENT}# camera 4: c.frame\n7 7 0\n"
+            ),
+        ),
+        (
+            "csv",
+            "camera,file,answer,words,corner,x,y,strength\n1,d.frame,0,,0,3,3,160000\n\
+             2,b.frame,5,the ray radius is over 7,,,,\n3,a.pgm,0,,0,3,3,160000\n4,c.frame,0,,,,,\n"
+                .to_string(),
+        ),
+        ("json", json.concat()),
+    ]
+}
+
+/// The cameras of an arch by the names of their files, or end to end in one: the same lists, and a refusal that is seen.
+#[test]
+fn an_arch() {
+    let folder = folder("arch");
+    let mut together = Vec::new();
+    for (name, content) in four_cameras() {
+        fs::write(folder.join(name), &content).unwrap();
+        together.extend(match name {
+            "a.pgm" => document_frame().bytes(),
+            _ => content,
+        });
+    }
+    let names = four_cameras().map(|(name, _)| name);
+    fs::write(folder.join("all"), &together).unwrap();
+    fs::write(
+        folder.join("more"),
+        [&together[..], b"bytes behind"].concat(),
+    )
+    .unwrap();
+    for (format, printed) in four_printed() {
+        let words = [&["arch", "--format", format][..], &SETTINGS, &names].concat();
+        let output = run(&folder, &words);
+        assert_eq!((out(&output), status(&output)), (printed.clone(), 1));
+        assert_eq!(
+            error(&output),
+            "camera 1: d.frame: note: a frame file has its own settings; --override replaces them\n\
+             camera 2: b.frame: refused 5: the ray radius is over 7\n4 cameras, 1 without a list\n"
+        );
+        let words = ["arch", "--quiet", "--cameras", "4", "--format", format];
+        for name in ["all", "more", "-"] {
+            let words = [&words[..], &[name]].concat();
+            let (output, shown) = match name {
+                "-" => (fed(&folder, &words, &together), "standard input"),
+                _ => (run(&folder, &words), name),
+            };
+            let expected = names
+                .iter()
+                .fold(printed.clone(), |text, file| text.replace(file, shown));
+            assert_eq!((out(&output), status(&output)), (expected, 1));
+            let message = format!("camera 2: {shown}: refused 5: the ray radius is over 7\n");
+            assert_eq!(error(&output), message);
+        }
+    }
+    let sound = run(&folder, &["arch", "--quiet", "d.frame", "c.frame"]);
+    let list = format!("# camera 1: d.frame\n{DOCUMENT}# camera 2: c.frame\n7 7 0\n");
+    assert_eq!((out(&sound), status(&sound)), (list, 0));
+    let settings = ["--override", "--ray-radius", "8"];
+    let output = run(&folder, &[&["arch"][..], &settings, &names].concat());
+    assert_eq!(out(&output).matches("refused 5: ").count(), 4);
+    // A picture with settings that no frame file can hold is not laid among the others.
+    let words = ["arch", "--quiet", "--min-cluster-size", "65536"];
+    let output = run(&folder, &[&words[..], &["a.pgm", "d.frame"]].concat());
+    let text = "no list: a frame file has no room for such sizes or settings";
+    let list = format!("# camera 1: a.pgm\n{text}\n# camera 2: d.frame\n{DOCUMENT}");
+    assert_eq!((out(&output), status(&output)), (list, 1));
+}
+
+/// Three cameras that are not alike: a list, an empty one, and one of more corners.
+fn three_cameras() -> [Vec<u8>; 3] {
+    let many = several_frames().remove("noise.frame").unwrap();
+    [document_frame().bytes(), blank(), many]
+}
+
+/// The list and the drawing that a frame has alone.
+fn alone(folder: &Path, content: &[u8]) -> [Vec<u8>; 2] {
+    fs::write(folder.join("alone.frame"), content).unwrap();
+    let words = ["--out", "alone", "--draw", "svg", "alone.frame"];
+    assert_eq!(status(&run(folder, &words)), 0);
+    ["corners", "svg"]
+        .map(|ending| fs::read(folder.join(format!("alone/alone.frame.{ending}"))).unwrap())
+}
+
+/// With --out each camera has its own results; a camera that is refused has none, and none from yesterday.
+#[test]
+fn results_of_an_arch() {
+    let folder = folder("arch-results");
+    let lists = folder.join("lists");
+    // Two cameras whose files have one name, and names that are not in order.
+    let files = ["right/dawn.frame", "left/dawn.frame", "above.frame"];
+    let names = ["dawn.frame.1", "dawn.frame.2", "above.frame.3"];
+    for camera in ["left", "right"] {
+        fs::create_dir_all(folder.join(camera)).unwrap();
+    }
+    let cameras = three_cameras();
+    let expected = cameras.each_ref().map(|content| alone(&folder, content));
+    let words = ["arch", "--quiet", "--out", "lists", "--draw", "svg"];
+    for turned_down in [None, Some(1), Some(0), Some(2), None] {
+        for (at, file) in files.iter().enumerate() {
+            let content = match turned_down == Some(at) {
+                true => refused(),
+                false => cameras[at].clone(),
+            };
+            fs::write(folder.join(file), content).unwrap();
+        }
+        let output = run(&folder, &[&words[..], &files].concat());
+        let failed = i32::from(turned_down.is_some());
+        assert_eq!((out(&output).as_str(), status(&output)), ("", failed));
+        let manifest = fs::read_to_string(lists.join("run.json")).unwrap();
+        let is_row = |line: &&str| line.starts_with("{\"name\"");
+        let rows: Vec<&str> = manifest.lines().filter(is_row).collect();
+        assert_eq!(rows.len(), 3);
+        let mut there = 1;
+        for (at, (row, name)) in rows.iter().zip(names).enumerate() {
+            let camera = format!("/{}\",\"camera\":{},", files[at], at + 1);
+            assert!(row.starts_with(&format!("{{\"name\":\"{name}\",")), "{row}");
+            assert!(row.contains(&camera), "{row}");
+            let results = ["corners", "svg"].map(|ending| format!("{name}.{ending}"));
+            let told = match turned_down == Some(at) {
+                true => "\"results\":[]".to_string(),
+                false => format!("\"results\":[\"{}\",\"{}\"]", results[0], results[1]),
+            };
+            let answer = if turned_down == Some(at) { 5 } else { 0 };
+            assert!(
+                row.contains(&told) && row.contains(&format!("\"answer\":{answer},")),
+                "{row}"
+            );
+            if turned_down != Some(at) {
+                let contents = results.map(|result| fs::read(lists.join(result)).unwrap());
+                assert!(contents == expected[at], "{name}");
+                there += 2;
+            }
+        }
+        assert_eq!(fs::read_dir(&lists).unwrap().count(), there);
+    }
+    let output = run(&folder, &[&["arch", "--beside"][..], &files].concat());
+    assert_eq!((out(&output).as_str(), status(&output)), ("", 2));
+    assert!(error(&output).contains("--beside wants all files of an arch in one folder"));
+}
+
+/// The same of frames in one file, beside it; and a number of cameras that is refused leaves no list either.
+#[test]
+fn results_of_an_arch_in_one_file() {
+    let folder = folder("arch-file");
+    let (cameras, one) = (three_cameras(), folder.join("one"));
+    fs::create_dir_all(&one).unwrap();
+    fs::write(one.join("all"), cameras.concat()).unwrap();
+    let call = |cameras: &str, format: &str| {
+        let words = [
+            "arch", "--quiet", "--beside", "--draw", "svg", "--format", format,
+        ];
+        run(
+            &folder,
+            &[&words[..], &["--cameras", cameras, "one/all"]].concat(),
+        )
+    };
+    let manifest = || fs::read_to_string(one.join("run.json")).unwrap();
+    for format in ["list", "record"] {
+        assert_eq!(status(&call("3", format)), 0);
+        for (at, content) in cameras.iter().enumerate() {
+            let [list, drawing] = alone(&folder, content);
+            let (ending, list) = match format {
+                "record" => ("record", record_of(&String::from_utf8(list).unwrap())),
+                _ => ("corners", list),
+            };
+            let name = |ending| one.join(format!("all.{}.{ending}", at + 1));
+            assert!(fs::read(name(ending)).unwrap() == list, "{at} as {format}");
+            assert!(fs::read(name("svg")).unwrap() == drawing, "{at}");
+        }
+        assert_eq!(results(&one, "all").len(), 6);
+    }
+    assert!(manifest().contains("\n\"settings\":null,\n"));
+    let bytes = format!("\"bytes\":{},", cameras.concat().len());
+    for (told, times) in [(bytes.as_str(), 3), ("\"settings\":{\"ray_radius\":1,", 3)] {
+        assert_eq!(manifest().matches(told).count(), times, "{told}");
+    }
+    for (cameras, entries) in [("9", 8), ("1", 1), ("0", 1), ("18446744073709551615", 8)] {
+        assert_eq!(status(&call("2", "list")), 0);
+        let output = call(cameras, "list");
+        assert_eq!((out(&output).as_str(), status(&output)), ("", 1));
+        assert_eq!(error(&output).matches("refused 21: ").count(), entries);
+        assert!(results(&one, "all").is_empty(), "{cameras}");
+        assert_eq!(manifest().matches("\"answer\":21,").count(), entries);
+    }
+}
+
+/// A number of cameras that is not 2 to 8: nothing is read, and nothing is printed as a list.
+#[test]
+fn wrong_numbers_of_cameras() {
+    let folder = folder("arch-numbers");
+    fs::write(folder.join("a"), document_frame().bytes()).unwrap();
+    let nine = [&["arch", "--quiet"][..], &["a"; 9]].concat();
+    for words in [
+        &["arch", "--quiet", "a"][..],
+        &nine,
+        &["arch", "--quiet", "--cameras", "0", "a"],
+        &["arch", "--quiet", "--cameras", "1", "missing"],
+        &["arch", "--quiet", "--cameras", "9", "a"],
+        &["arch", "--quiet", "--cameras", "18446744073709551615", "a"],
+    ] {
+        for format in ["list", "csv", "json"] {
+            let output = run(&folder, &[words, &["--format", format]].concat());
+            assert_eq!(status(&output), 1, "{words:?}");
+            let (text, message) = (out(&output), error(&output));
+            assert!(message
+                .lines()
+                .all(|line| line.contains(": refused 21: the camera count")));
+            let number = match format {
+                "list" => "refused 21: ",
+                "csv" => ",21,",
+                _ => "\"refused\":21,",
+            };
+            // A refusal a camera, and nothing else but what goes before it.
+            let is_head =
+                |line: &&str| line.starts_with("# camera ") || line.starts_with("camera,");
+            let rest: Vec<&str> = text.lines().filter(|line| !is_head(line)).collect();
+            assert!(rest.iter().all(|line| line.contains(number)), "{text}");
+            assert_eq!(rest.len(), message.lines().count());
+            let heads = text
+                .lines()
+                .filter(|line| line.starts_with("# camera "))
+                .count();
+            assert_eq!(heads, if format == "list" { rest.len() } else { 0 });
+        }
+    }
+    let message = error(&run(&folder, &["arch", "a"]));
+    assert!(message.contains("; frame files end to end in one file go with --cameras"));
+    for number in 2..=8 {
+        let words = [&["arch", "--quiet"][..], &vec!["a"; number]].concat();
+        let output = run(&folder, &words);
+        assert_eq!(status(&output), 0);
+        assert_eq!(out(&output).matches(DOCUMENT).count(), number);
+    }
+}
+
+/// A file that is no whole frame file is answered as it is alone, and shifts no other camera's frame.
+#[test]
+fn damaged_files_of_an_arch() {
+    let folder = folder("arch-damaged");
+    let sound = document_frame().bytes();
+    fs::write(folder.join("good"), &sound).unwrap();
+    fs::create_dir_all(folder.join("bad folder")).unwrap();
+    let mut damaged: Vec<Vec<u8>> = vec![
+        b"".to_vec(),
+        b"\x01".to_vec(),
+        [&sound[..], &sound].concat(),
+        b"P5 7 7 255\n".to_vec(),
+        b"\x89PNG\r\n\x1a\n".to_vec(),
+        [7; 100].to_vec(),
+        vec![1, 0xFF, 0xFF, 0xFF, 0xFF, 0, 0],
+    ];
+    damaged.extend(
+        (1..sound.len())
+            .step_by(7)
+            .map(|length| sound[..length].to_vec()),
+    );
+    damaged.extend([1, 5, 69].map(|more| [&sound[..], &vec![1; more]].concat()));
+    let mut names = vec!["missing".to_string(), "bad folder".to_string()];
+    for (at, content) in damaged.iter().enumerate() {
+        names.push(format!("bad {at}"));
+        fs::write(folder.join(&names[names.len() - 1]), content).unwrap();
+    }
+    for name in &names {
+        // A folder alone is gone through; as a camera's file it is no file.
+        let alone = match name.as_str() {
+            "bad folder" => {
+                "bad folder: not a regular file (a folder, pipe, socket or device)\n".to_string()
+            }
+            _ => error(&run(&folder, &[name])),
+        };
+        let words = alone.strip_prefix(&format!("{name}: ")).unwrap();
+        for place in 1..=3 {
+            let mut files = ["good"; 3];
+            files[place - 1] = name;
+            let output = run(&folder, &[&["arch", "--quiet"][..], &files].concat());
+            assert_eq!(status(&output), 1);
+            assert_eq!(error(&output), format!("camera {place}: {alone}"));
+            let block = |camera: usize| match camera == place {
+                true if words.starts_with("refused ") => {
+                    words.split(';').next().unwrap().trim_end().to_string() + "\n"
+                }
+                true => format!("no list: {words}"),
+                false => DOCUMENT.to_string(),
+            };
+            let expected: String = (1..=3)
+                .map(|camera| {
+                    format!(
+                        "# camera {camera}: {}\n{}",
+                        files[camera - 1],
+                        block(camera)
+                    )
+                })
+                .collect();
+            // A strange file has more words on standard error.
+            let expected =
+                expected.replace(", and its opening is that of no picture that is known", "");
+            assert_eq!(out(&output), expected);
+        }
+    }
+    assert_eq!(names.len(), 2 + 7 + 10 + 3);
+}
+
+/// Where frames end to end begin, and what that alone answers: document 02's text, a second time.
+fn shared_out(frames: &[u8], cameras: usize) -> Vec<Result<&[u8], u32>> {
+    let (mut rest, mut shares) = (Some(frames), Vec::new());
+    for _ in 0..cameras {
+        let left = rest.unwrap_or_default();
+        shares.push(if left.len() < 5 {
+            rest = None;
+            Err(11)
+        } else {
+            let stated = u32::from_be_bytes(left[1..5].try_into().unwrap()) as usize;
+            rest = left.get(5 + stated..);
+            left.get(..5 + stated).ok_or(13)
+        });
+    }
+    shares
+}
+
+/// Made and damaged frame files end to end: each camera has what its frame alone has by the original.
+#[test]
+fn many_arches() {
+    let folder = folder("arches");
+    let (mut seen, mut lists) = (BTreeMap::new(), 0);
+    for arch in 0..120u64 {
+        let cameras = 2 + (arch % 7) as usize;
+        let file = |camera: usize| match (arch + camera as u64) % 3 {
+            0 => judge::damaged(61, 8 * arch + camera as u64),
+            _ => judge::make(61, 8 * arch + camera as u64),
+        };
+        let mut frames = (0..cameras).map(file).collect::<Vec<_>>().concat();
+        // Cut, whole, or with bytes behind.
+        match arch % 3 {
+            0 => frames.truncate(frames.len() - (arch as usize * 7) % frames.len().min(300)),
+            1 => frames.extend([1; 30]),
+            _ => {}
+        }
+        let words = ["arch", "--quiet", "--cameras", &cameras.to_string(), "-"];
+        let output = fed(&folder, &words, &frames);
+        let text = out(&output);
+        let blocks: Vec<&str> = text.split("# camera ").skip(1).collect();
+        assert_eq!(blocks.len(), cameras);
+        let mut refusals = 0;
+        for (at, share) in shared_out(&frames, cameras).into_iter().enumerate() {
+            let head = format!("{}: standard input\n", at + 1);
+            let block = blocks[at].strip_prefix(&head).unwrap();
+            let alone = match share {
+                Ok(file) => judge::printed(file, Room::FREE),
+                Err(number) => format!("refused {number}\n").into_bytes(),
+            };
+            match alone.strip_prefix(b"refused ") {
+                Some(number) => {
+                    let number = String::from_utf8_lossy(number.trim_ascii()).into_owned();
+                    assert!(
+                        block.starts_with(&format!("refused {number}: ")),
+                        "{arch}: {block}"
+                    );
+                    *seen.entry(number).or_insert(0) += 1;
+                    refusals += 1;
+                }
+                None => {
+                    assert_eq!(strengths(block.as_bytes()), strengths(&alone), "{arch}");
+                    lists += 1;
+                }
+            }
+        }
+        assert_eq!(status(&output), i32::from(refusals > 0));
+    }
+    assert!(
+        seen.contains_key("11") && seen.contains_key("13"),
+        "{seen:?}"
+    );
+    assert!(seen.len() > 5 && lists > 200, "{seen:?} {lists}");
+}
+
+/// Files of frames that no arch has: longer than eight frames, a folder, a device, nothing. One that is longer than a frame is taken.
+#[test]
+fn strange_files_of_frames() {
+    let folder = folder("arch-strange");
+    let large = Frame {
+        width: 4096,
+        height: 2048,
+        pixels: vec![0; 4096 * 2048],
+        ..document_frame()
+    };
+    fs::write(folder.join("large"), large.bytes().repeat(3)).unwrap();
+    let output = run(&folder, &["arch", "--quiet", "--cameras", "3", "large"]);
+    assert_eq!(
+        (
+            out(&output).matches("4096 2048 0\n").count(),
+            status(&output)
+        ),
+        (3, 0)
+    );
+    let long = fs::File::create(folder.join("long")).unwrap();
+    long.set_len(1 << 40).unwrap();
+    fs::create_dir_all(folder.join("sub")).unwrap();
+    fs::write(folder.join("empty"), b"").unwrap();
+    fs::write(folder.join("byte"), [1]).unwrap();
+    for (name, words) in [
+        ("long", "longer than any eight frames that are taken"),
+        ("sub", "not a regular file"),
+        ("/dev/zero", "not a regular file"),
+        ("missing", "No such file"),
+        ("empty", "refused 11: "),
+        ("byte", "refused 11: "),
+    ] {
+        let output = run(&folder, &["arch", "--quiet", "--cameras", "2", name]);
+        assert_eq!(status(&output), 1);
+        for camera in 1..=2 {
+            let message = format!("camera {camera}: {name}: {words}");
+            assert!(error(&output).contains(&message), "{}", error(&output));
+        }
+        assert_eq!(out(&output).lines().count(), 4, "{}", out(&output));
+    }
+}
+
 /// The chunks of a PNG, taken apart; what it stores, without the bytes in front of rows.
 fn pixels(png: &[u8]) -> (usize, usize, Vec<u8>) {
     assert_eq!(png[..8], *b"\x89PNG\r\n\x1a\n");
@@ -908,6 +1365,22 @@ fn help_and_wrong_words() {
         &["read", "--format", "record", "a", "b"],
         &["read", "--beside", "-"],
         &["read", "--out", "x", "--beside", "a"],
+        &["arch"],
+        &["arch", "--cameras", "2"],
+        &["arch", "--cameras"],
+        &["arch", "--cameras", "two", "a"],
+        &["arch", "--cameras", "-2", "a"],
+        &["arch", "--cameras", "99999999999999999999", "a"],
+        &["arch", "--cameras", "2", "a", "b"],
+        &["arch", "--cameras", "2", "--ray-radius", "4", "a"],
+        &["arch", "--cameras", "2", "--override", "a"],
+        &["arch", "--draw", "svg", "a", "b"],
+        &["arch", "--format", "record", "a", "b"],
+        &["arch", "--format", "record", "--cameras", "2", "a"],
+        &["arch", "--beside", "--cameras", "2", "-"],
+        &["arch", "--beside", "a", "-"],
+        &["--cameras", "2", "a"],
+        &["read", "--cameras", "2", "a"],
     ] {
         let output = run(&folder, words);
         assert_eq!(

@@ -16,8 +16,10 @@ use std::time::{Duration, Instant};
 
 /// Frames of a run that is killed.
 const FRAMES: usize = 40;
-/// Points at which it is killed, for each of the two signals.
-const POINTS: usize = 150;
+/// Cameras of an arch.
+const CAMERAS: usize = 8;
+/// Points at which a run is killed, for each of the two signals.
+const POINTS: usize = 225;
 
 const BINARY: &str = env!("CARGO_BIN_EXE_steyrbunk");
 
@@ -79,10 +81,14 @@ fn status(output: &Output) -> i32 {
 
 /// A board of 48 by 48 pixels; the day moves it, so that lists of two days differ.
 fn board(day: usize, number: usize) -> Vec<u8> {
-    let mut file = b"P5 48 48 255\n".to_vec();
+    board_of(48, day, number)
+}
+
+fn board_of(side: usize, day: usize, number: usize) -> Vec<u8> {
+    let mut file = format!("P5 {side} {side} 255\n").into_bytes();
     let shade = |x: usize, y: usize| ((x + 3 * day + number % 3) / 12 + (y + number % 5) / 12) % 2;
-    file.extend((0..48 * 48).map(|at| {
-        if shade(at % 48, at / 48) == 1 {
+    file.extend((0..side * side).map(|at| {
+        if shade(at % side, at / side) == 1 {
             190
         } else {
             40
@@ -102,6 +108,30 @@ fn write_day(frames: &Path, day: usize) {
         .unwrap();
     }
 }
+
+/// The cameras of an arch, large enough for a run to take its time: a picture each, and all their frame files in one.
+fn write_arch(frames: &Path, day: usize) {
+    fs::create_dir_all(frames).unwrap();
+    let mut together = Vec::new();
+    for camera in 1..=CAMERAS {
+        let name = format!("{camera}.pgm");
+        fs::write(frames.join(&name), board_of(160, day, camera)).unwrap();
+        together.extend(run(frames, &["frame", &name]).stdout);
+    }
+    fs::write(frames.join("all"), together).unwrap();
+}
+
+/// The files of its cameras, not in order.
+const ARCH: [&str; CAMERAS] = [
+    "arch/3.pgm",
+    "arch/1.pgm",
+    "arch/8.pgm",
+    "arch/4.pgm",
+    "arch/6.pgm",
+    "arch/2.pgm",
+    "arch/7.pgm",
+    "arch/5.pgm",
+];
 
 /// Files with their content, by their names from a folder.
 type Files = BTreeMap<String, Vec<u8>>;
@@ -186,6 +216,8 @@ fn held(lists: &Path, days: &[&Files]) -> Option<usize> {
 /// A call that is made again and again, with what it reads and leaves on each of two days.
 struct Course {
     words: Vec<&'static str>,
+    /// The folder of what it reads.
+    from: &'static str,
     sources: [Files; 2],
     results: [Files; 2],
     /// How long it takes.
@@ -197,20 +229,26 @@ impl Course {
     fn new(folder: &Path, words: &[&'static str], sources: [Files; 2]) -> Course {
         let words = words.to_vec();
         let each = if words.contains(&"--draw") { 2 } else { 1 };
+        let (from, lists) = if words.contains(&"arch") {
+            ("arch", CAMERAS)
+        } else {
+            ("frames", FRAMES)
+        };
         let started = Instant::now();
         let results = [0, 1].map(|day| {
-            let at = folder.join(format!("{}{day}", words.join(" ")));
-            write_all(&at.join("frames"), &sources[day]);
+            let at = folder.join(format!("{}{day}", words.join(" ").replace('/', "-")));
+            write_all(&at.join(from), &sources[day]);
             let output = run(&at, &words);
             assert_eq!(status(&output), 0, "{}", error(&output));
             let mut files = all(&at.join("lists"));
             files.retain(|name, _| is_result(name));
-            assert_eq!(files.len(), each * FRAMES);
+            assert_eq!(files.len(), each * lists);
             files
         });
         assert_ne!(results[0], results[1]);
         Course {
             words,
+            from,
             sources,
             results,
             usual: started.elapsed() / 2,
@@ -226,12 +264,17 @@ fn write_all(folder: &Path, files: &Files) {
     }
 }
 
-/// Lists and drawings of frames, their records, and the lists of these: half of the runs are of the first kind.
-fn courses(folder: &Path) -> [Course; 3] {
-    let days = [0, 1].map(|day| {
-        write_day(&folder.join(format!("frames{day}")), day);
-        all(&folder.join(format!("frames{day}")))
-    });
+/// Lists and drawings of frames, their records, and the lists of these; lists and drawings of an arch by the names of its
+/// files, and records of one in one file.
+fn courses(folder: &Path) -> [Course; KINDS] {
+    let of_days = |write: fn(&Path, usize), name: &str| {
+        [0, 1].map(|day| {
+            let frames = folder.join(format!("{name}{day}"));
+            write(&frames, day);
+            all(&frames)
+        })
+    };
+    let (days, arches) = (of_days(write_day, "days"), of_days(write_arch, "arches"));
     let lists = ["--out", "lists", "--draw", "svg", "--quiet", "frames"];
     let records = ["--out", "lists", "--format", "record", "--quiet", "frames"];
     let read = [
@@ -240,8 +283,30 @@ fn courses(folder: &Path) -> [Course; 3] {
     let lists = Course::new(folder, &lists, days.clone());
     let records = Course::new(folder, &records, days);
     let read = Course::new(folder, &read, records.results.clone());
-    [lists, records, read]
+    let by_name = [
+        &["arch", "--out", "lists", "--draw", "svg", "--quiet"][..],
+        &ARCH,
+    ]
+    .concat();
+    let together = [
+        "arch",
+        "--out",
+        "lists",
+        "--format",
+        "record",
+        "--quiet",
+        "--cameras",
+        "8",
+        "arch/all",
+    ];
+    let by_name = Course::new(folder, &by_name, arches.clone());
+    let together = Course::new(folder, &together, arches);
+    [lists, records, read, by_name, together]
 }
+
+/// Courses, and the turns in which they are killed: a third of the points is for lists of frames.
+const KINDS: usize = 5;
+const TURNS: [usize; 6] = [0, 1, 3, 0, 2, 4];
 
 /// Killed at many points of a run over yesterday's results: by SIGKILL and by SIGINT.
 #[test]
@@ -250,21 +315,22 @@ fn killed_anywhere() {
     let mut courses = courses(&folder);
     let at = folder.join("run");
     let lists = at.join("lists");
-    let (mut cut, mut before, mut between, mut after) = ([0; 3], 0, [0; 3], 0);
+    let (mut cut, mut before, mut between, mut after) = ([0; KINDS], 0, [0; KINDS], 0);
     for point in 0..2 * POINTS {
-        let kind = [0, 1, 0, 2][point / 2 % 4];
+        let kind = TURNS[point / 2 % TURNS.len()];
         let Course {
             words,
+            from,
             sources,
             results,
             usual,
         } = &mut courses[kind];
         let days = [&results[0], &results[1]];
         // Yesterday's run, whole; then today's, killed on its way.
-        write_all(&at.join("frames"), &sources[0]);
+        write_all(&at.join(*from), &sources[0]);
         assert_eq!(status(&run(&at, words)), 0);
         assert_eq!(held(&lists, &days[..1]), Some(0));
-        write_all(&at.join("frames"), &sources[1]);
+        write_all(&at.join(*from), &sources[1]);
         let mut child = command(&at, words).stderr(Stdio::null()).spawn().unwrap();
         sleep(usual.mul_f64((point / 2) as f64 / POINTS as f64));
         if point % 2 == 0 {
@@ -295,11 +361,11 @@ fn killed_anywhere() {
         assert_eq!(names, ["run.json"]);
     }
     println!(
-        "{} points: runs cut off {cut:?} (lists, records, records read); yesterday's manifest still there {before} times, \
-         none {between:?} times, today's {after} times",
+        "{} points: runs cut off {cut:?} (lists, records, records read, arch by name, arch in one file); yesterday's manifest \
+         still there {before} times, none {between:?} times, today's {after} times",
         2 * POINTS
     );
-    for (kind, share) in [(0, 2), (1, 4), (2, 4)] {
+    for (kind, share) in [(0, 3), (1, 6), (2, 6), (3, 6), (4, 6)] {
         assert!(
             cut[kind] > POINTS / 2 / share && between[kind] > POINTS / 4 / share,
             "the points do not lie inside the runs: {cut:?}, {between:?}"
@@ -312,23 +378,36 @@ fn killed_anywhere() {
 fn a_full_disk() {
     let folder = folder("full");
     write_day(&folder.join("frames"), 1);
+    write_arch(&folder.join("arch"), 1);
     fs::create_dir_all(folder.join("lists")).unwrap();
     let kept = ["--out", "kept", "--quiet", "--format", "record", "frames"];
     assert_eq!(status(&run(&folder, &kept)), 0);
+    let by_name = format!("arch {}", ARCH.join(" "));
     let calls = [
-        ("frames/two", "--draw svg frames"),
+        ("frames/two", "--draw svg frames", 2 * FRAMES),
         (
             "--format record frames/two",
             "--format record --draw svg frames",
+            2 * FRAMES,
         ),
-        ("frames/two", "--draw svg frames"),
-        ("--format record frames/two", "read --format json kept"),
+        (&by_name, &format!("{by_name} --draw svg"), 2 * CAMERAS),
+        ("frames/two", "--draw svg frames", 2 * FRAMES),
+        (
+            "--format record frames/two",
+            "read --format json kept",
+            FRAMES,
+        ),
+        (
+            "arch --cameras 2 arch/all",
+            "arch --cameras 8 --format record --draw svg arch/all",
+            2 * CAMERAS,
+        ),
     ];
-    let mut starved = [0; 4];
-    for kilobytes in (8..=400).step_by(8) {
-        let kind = kilobytes / 8 % 4;
-        let (yesterday, today) = calls[kind];
-        let results_of_all = FRAMES * if today.contains("--draw") { 2 } else { 1 };
+    let (mut starved, mut sizes) = ([0; 6], 0);
+    for kilobytes in (8..=600).step_by(8) {
+        sizes += 1;
+        let kind = kilobytes / 8 % calls.len();
+        let (yesterday, today, results_of_all) = calls[kind];
         // Yesterday's lists stand on the disk; then it is made smaller than today's lists are.
         let script = format!(
             "mount -t tmpfs -o size=1m tmpfs lists && '{BINARY}' {yesterday} --quiet --out lists >/dev/null 2>&1 \
@@ -380,7 +459,7 @@ fn a_full_disk() {
                 .for_each(|name| assert!(plan.contains(*name), "{kilobytes} kB: {name}"));
         }
     }
-    println!("50 sizes, {starved:?} too small");
+    println!("{sizes} sizes, {starved:?} too small");
     assert!(starved.iter().all(|starved| *starved > 2));
 }
 
@@ -537,6 +616,29 @@ fn rights() {
     assert_eq!(status(&output), 1);
     assert!(error(&output).contains("again/run.json: Permission denied"));
     assert!(all(&kept) == before && all(&folder.join("again")) == again);
+    // An arch: a camera whose file cannot be read has no list, and none from yesterday.
+    let words = [
+        "arch",
+        "--out",
+        "arch",
+        "--quiet",
+        "frames/b.pgm",
+        "frames/a.pgm",
+    ];
+    assert_eq!(status(&nobody(&words)), 0);
+    give(&frames.join("a.pgm"), 0o000);
+    let output = nobody(&words);
+    let message = "camera 2: frames/a.pgm: Permission denied (os error 13)\n";
+    assert_eq!((status(&output), error(&output).as_str()), (1, message));
+    let arch = all(&folder.join("arch"));
+    let files: Vec<&String> = arch.keys().collect();
+    assert_eq!(files, ["b.pgm.1.corners", "run.json"]);
+    give(&frames.join("a.pgm"), 0o644);
+    give(&folder.join("arch"), 0o555);
+    let output = nobody(&words);
+    assert_eq!(status(&output), 1);
+    assert!(error(&output).contains("arch/run.json: Permission denied"));
+    assert!(all(&folder.join("arch")) == arch);
     fs::remove_dir_all(&folder).unwrap();
 }
 
@@ -550,12 +652,17 @@ fn two_at_a_time() {
         0
     );
     let record = run(&folder, &["--format", "record", "frames/001.pgm"]).stdout;
-    second_run(&folder, &["--out", "lists", "-"], &board(0, 1));
-    second_run(&folder, &["read", "--out", "lists", "-"], &record);
+    let frame = run(&folder, &["frame", "frames/001.pgm"]).stdout;
+    let one = ["run.json", "stdin.corners"];
+    second_run(&folder, &["--out", "lists", "-"], &board(0, 1), &one);
+    second_run(&folder, &["read", "--out", "lists", "-"], &record, &one);
+    let two = ["run.json", "stdin.1.corners", "stdin.2.corners"];
+    let arch = ["arch", "--quiet", "--out", "lists", "--cameras", "2", "-"];
+    second_run(&folder, &arch, &[&frame[..], &frame].concat(), &two);
 }
 
-/// One run waits for its frame or record on standard input; another one comes along.
-fn second_run(folder: &Path, words: &[&str], input: &[u8]) {
+/// One run waits for its frame, record or arch on standard input; another one comes along. `left` is what the first one leaves.
+fn second_run(folder: &Path, words: &[&str], input: &[u8], left: &[&str]) {
     let mut first = Command::new(BINARY);
     let mut first = first
         .current_dir(folder)
@@ -566,15 +673,20 @@ fn second_run(folder: &Path, words: &[&str], input: &[u8]) {
     let lists = folder.join("lists");
     let started = Instant::now();
     let planned = || {
-        fs::read_to_string(lists.join("run.plan")).is_ok_and(|plan| plan.contains("stdin.corners"))
+        let plan = fs::read_to_string(lists.join("run.plan"));
+        plan.is_ok_and(|plan| left[1..].iter().all(|result| plan.contains(result)))
     };
     while !planned() {
         assert!(started.elapsed() < Duration::from_secs(20));
         sleep(Duration::from_millis(1));
     }
     let before = all(&lists);
-    for second in [&["frames"][..], &["--format", "record", "frames"]] {
-        let output = run(folder, &[&["--out", "lists"][..], second].concat());
+    for second in [
+        &["frames"][..],
+        &["--format", "record", "frames"],
+        &["arch", "frames/001.pgm", "frames/002.pgm"],
+    ] {
+        let output = run(folder, &[second, &["--out", "lists"]].concat());
         assert_eq!(status(&output), 1);
         let message = "lists: another run is writing there; nothing was changed";
         assert!(error(&output).contains(message));
@@ -583,7 +695,7 @@ fn second_run(folder: &Path, words: &[&str], input: &[u8]) {
     first.stdin.take().unwrap().write_all(input).unwrap();
     assert!(first.wait().unwrap().success());
     let files: Vec<String> = all(&lists).into_keys().collect();
-    assert_eq!(files, ["run.json", "stdin.corners"]);
+    assert_eq!(files, left);
     assert_eq!(status(&run(folder, &["--out", "lists", "frames"])), 0);
 }
 
@@ -657,6 +769,26 @@ fn nothing_to_find() {
         let files: Vec<String> = all(&lists).into_keys().collect();
         assert_eq!(files, ["run.json"]);
     }
+    // A camera of an arch whose file is gone.
+    fs::rename(folder.join("away"), &frames).unwrap();
+    let words = [
+        "arch",
+        "--out",
+        "lists",
+        "--quiet",
+        "frames/001.pgm",
+        "frames/002.pgm",
+    ];
+    assert_eq!(status(&run(&folder, &words)), 1, "001 is away since above");
+    fs::write(frames.join("001.pgm"), board(0, 1)).unwrap();
+    assert_eq!(status(&run(&folder, &words)), 0);
+    fs::remove_file(frames.join("001.pgm")).unwrap();
+    let output = run(&folder, &words);
+    assert_eq!(status(&output), 1);
+    let text = "camera 1: frames/001.pgm: No such file or directory (os error 2)\n";
+    assert_eq!(error(&output), text);
+    let files: Vec<String> = all(&lists).into_keys().collect();
+    assert_eq!(files, ["002.pgm.2.corners", "run.json"]);
 }
 
 /// What the command did not write stays, and is named.
@@ -700,7 +832,20 @@ fn the_users_own_files() {
     let text = "a.pgm.record: a.pgm.record.csv is there and not of an earlier run: it stays";
     assert!(error(&output).contains(text), "{}", error(&output));
     assert_eq!(all(&lists).len(), mine.len() + 2);
-    for name in ["a.pgm.corners", "a.pgm.record.csv"] {
+    // And of a camera's list: the other camera has its own.
+    fs::write(lists.join("a.pgm.2.corners"), "mine").unwrap();
+    let arch = ["arch", "--out", "lists", "frames/b.pgm", "frames/a.pgm"];
+    for _ in 0..2 {
+        let output = run(&folder, &arch);
+        assert_eq!(status(&output), 1);
+        let text =
+            "camera 2: frames/a.pgm: a.pgm.2.corners is there and not of an earlier run: it stays";
+        assert!(error(&output).contains(text), "{}", error(&output));
+        let files = all(&lists);
+        assert_eq!(files.len(), mine.len() + 4);
+        assert!(files["a.pgm.2.corners"] == b"mine" && files.contains_key("b.pgm.1.corners"));
+    }
+    for name in ["a.pgm.corners", "a.pgm.record.csv", "a.pgm.2.corners"] {
         fs::remove_file(lists.join(name)).unwrap();
     }
     assert_eq!(status(&run(&folder, &words)), 0);
@@ -859,6 +1004,14 @@ fn strange_frames_and_names() {
             "{text}"
         );
     }
+    let output = run(
+        &folder,
+        &["arch", "--quiet", "frames/x.pgm", "frames/new\nline.pgm"],
+    );
+    let text = String::from_utf8(output.stdout).unwrap();
+    let front = "# camera 1: frames/x.pgm\nno list: not a regular file (a folder, pipe, socket or device)\n\
+                 # camera 2: frames/new\\x0aline.pgm\n96 96 ";
+    assert!(text.starts_with(front), "{text}");
     // The results are found again by their own names, and cleared.
     for _ in 0..2 {
         assert_eq!(status(&run(&folder, &["--beside", "--quiet", "frames"])), 1);
@@ -905,6 +1058,7 @@ fn a_full_output() {
         &["a.pgm"][..],
         &["--format", "record", "a.pgm"],
         &["read", "a.record"],
+        &["arch", "a.pgm", "a.pgm"],
     ] {
         let mut command = command(&folder, words);
         command.stdout(

@@ -7,4 +7,4 @@ mod pgm;
 
 pub use kinds::{kind, Kind};
 pub use named::{settings_help, Named};
-pub use open::{open, Problem};
+pub use open::{file, open, Problem};

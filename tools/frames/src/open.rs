@@ -3,7 +3,7 @@
 use std::fmt;
 use std::path::Path;
 
-use steyrbunk::frame::Frame;
+use steyrbunk::frame::{bytes, Frame};
 use steyrbunk::{Refusal, Settings};
 
 use crate::kinds::{conversion, kind, Kind};
@@ -11,7 +11,7 @@ use crate::named::Named;
 use crate::pgm;
 
 /// Why there is no list of a file.
-#[derive(Debug)]
+#[derive(Clone, Debug)]
 pub enum Problem {
     Refused(Refusal),
     /// The same, with what would help.
@@ -92,6 +92,13 @@ pub fn open<'a>(
             Ok(frame)
         }
     }
+}
+
+/// The frame file of a frame, so that every program reads the very same bytes.
+pub fn file(frame: &Frame) -> Result<Vec<u8>, Problem> {
+    bytes(frame).ok_or_else(|| {
+        Problem::Damaged("a frame file has no room for such sizes or settings".to_string())
+    })
 }
 
 fn converted(name: &str, path: &Path) -> String {

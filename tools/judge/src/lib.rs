@@ -8,6 +8,7 @@ mod shells;
 use shells::{par, refine, uncertainty, ResponseMap};
 
 pub mod answers;
+pub mod arch;
 pub mod frame;
 pub mod lists;
 pub mod maker;
@@ -19,6 +20,7 @@ pub mod random;
 pub mod upsampled;
 
 pub use answers::{accepted, refusal, Room};
+pub use arch::{dues, made_arch};
 pub use frame::{document_frame, split, Frame};
 pub use maker::{damaged, made, make, Made, Sizes};
 pub use outcome::{run, sums, Detector, Found, Outcome};

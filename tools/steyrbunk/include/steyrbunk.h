@@ -1,10 +1,11 @@
 /* steyrbunk.h: the proved Radon corner finder, as a static library (libsteyrbunk_c.a).
  *
  * steyrbunk_find does everything; steyrbunk_response makes the map alone, and steyrbunk_peaks makes
- * the list of a map. steyrbunk_write_record makes a record of a list, bytes to be kept, and
- * steyrbunk_read_record the list of a record. They allocate nothing, keep nothing between calls, and
- * may run at the same time on different buffers. The caller lends every buffer. steyrbunk_sqrt and
- * steyrbunk_ln are the root and the logarithm that the finder takes.
+ * the list of a map. steyrbunk_arch does everything for all cameras of an arch, from their frame files.
+ * steyrbunk_write_record makes a record of a list, bytes to be kept, and steyrbunk_read_record the list
+ * of a record. They allocate nothing, keep nothing between calls, and may run at the same time on
+ * different buffers. The caller lends every buffer. steyrbunk_sqrt and steyrbunk_ln are the root and the
+ * logarithm that the finder takes.
  *
  * Words used below
  *   factor       1 or 2: image_upsample, where 0 counts as 1, and 3 or more as 2
@@ -15,11 +16,11 @@
  * 25 bytes a working pixel together. What they held before changes nothing. With answers 0 and 1 the
  * first W*H entries of each are written, row after row (those of blur_scratch only if the blur radius
  * is not 0); entries beyond stay as they were. With every other answer no buffer changes.
- * No two buffers may overlap, and none may overlap the image or a record that is read. Where a length
- * is 0 its pointer is not read. Tables, response, scratch and list must be aligned to four bytes, as
- * malloc aligns them, and count, w and h as a size_t is; image, working and records may lie anywhere.
- * count, w and h are written with every answer and must not be null: a null one is written through,
- * and the program is ended by the system or worse.
+ * No two buffers may overlap, and none may overlap the image, the frames or a record that is read. Where
+ * a length is 0 its pointer is not read. Tables, response, scratch and list must be aligned to four bytes,
+ * as malloc aligns them, and count, w, h and told as a size_t is; image, frames, working and records may
+ * lie anywhere. count, w, h and told are written with every answer and must not be null: a null one is
+ * written through, and the program is ended by the system or worse.
  *
  * Answers. The lowest number of 2 to 9 that applies is given; 14 comes before them.
  *    0  accepted, all corners are in the list
@@ -33,6 +34,12 @@
  *    8  threshold_rel is NaN, below 0 or above 1
  *    9  a lent buffer other than the list is too short
  *   14  peak_fit is above 1
+ * A camera of an arch is answered by these and by 11 to 13, which come before 14; 13 comes first.
+ *   11  the frame file has under 20 bytes, or under five are left for it, or none
+ *   12  the frame file's version is not 1
+ *   13  the frame file states a length that runs past the end of frames
+ * The arch itself is answered 0 or
+ *   21  the camera count is not 2 to 8, or the list has less than one corner a camera
  * Records are answered 0 or one of these, again the lowest that applies:
  *   16  the record has under 13 bytes or not the length that it states
  *   17  the record's version is not 1
@@ -59,6 +66,10 @@ extern "C" {
 #define STEYRBUNK_GREATEST_BLUR_RADIUS 3u
 #define STEYRBUNK_GREATEST_NMS_RADIUS 32u
 #define STEYRBUNK_GREATEST_RECORD_CORNERS 8388608u /* of a record */
+
+/* Cameras of an arch. */
+#define STEYRBUNK_FEWEST_CAMERAS 2u
+#define STEYRBUNK_MOST_CAMERAS 8u
 
 /* The default settings. */
 #define STEYRBUNK_RAY_RADIUS 4u
@@ -132,6 +143,38 @@ uint32_t steyrbunk_peaks(
     uint32_t min_cluster_size,
     float *list, size_t list_len,
     size_t *count
+);
+
+/* What a camera of an arch is told: as steyrbunk_find tells its answer, count, W and H. */
+typedef struct {
+    size_t answer, count, w, h;
+} steyrbunk_camera;
+
+/* All cameras of an arch, one after the other over the same buffers. Answers 0 and 21; with 21 every camera is
+ * told 21, its count and sizes are 0, and no buffer changes.
+ *
+ * A frame file is, big-endian: a byte 1 for the version; four bytes, how many bytes follow these; width and height,
+ * two bytes each; ray_radius, image_upsample, response_blur_radius, peak_fit and nms_radius, a byte each;
+ * min_cluster_size, two bytes; the bits of threshold_rel, four; the pixels.
+ *
+ * Camera i, counted from 0, is told and has in its share of the list what steyrbunk_find would have told and left
+ * with that share as its list. The share is the i-th run of list_len / 3 / cameras corners, both divisions rounded
+ * down; what is left over at the end stays as it was. A refused camera stops nobody: the next frame begins after the
+ * length that the refused one states. Where that runs past the end (13), or under five bytes are left (11), the
+ * later cameras are told 11. Bytes behind the last frame are not read. Afterwards working, tables, response and
+ * scratch hold what the last camera left that was not refused, and behind it what earlier ones did. */
+uint32_t steyrbunk_arch(
+    size_t cameras,                           /* 2 to 8 */
+    const uint8_t *frames, size_t frames_len, /* the frame files end to end, that of camera 0 first */
+    uint8_t *working, size_t working_len,     /* as for steyrbunk_find; a camera for which one is too short is told 9 */
+    uint32_t *row_cumsum, size_t row_cumsum_len,
+    uint32_t *col_cumsum, size_t col_cumsum_len,
+    uint32_t *diag_pos_cumsum, size_t diag_pos_cumsum_len,
+    uint32_t *diag_neg_cumsum, size_t diag_neg_cumsum_len,
+    float *response, size_t response_len,
+    float *blur_scratch, size_t blur_scratch_len,
+    float *list, size_t list_len, /* x, y and strength of each corner, a share for each camera */
+    steyrbunk_camera told[8]      /* always eight, all written with every answer: one that no camera has reads 11, 0, 0, 0 */
 );
 
 /* Records. A record keeps the corners of a frame and W and H, every number bit for bit, the sign of a

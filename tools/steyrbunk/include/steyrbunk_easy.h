@@ -17,6 +17,16 @@
  *
  *     float *kept = malloc(steyrbunk_kept(record_len) * 3 * sizeof(float));
  *     answer = steyrbunk_read_record(record, record_len, kept, 3 * steyrbunk_kept(record_len), &count, &w, &h);
+ *
+ * and for all cameras of an arch, whose frame files stand end to end:
+ *
+ *     size_t bytes = steyrbunk_arch_workspace(frames, frames_len);
+ *     void *workspace = malloc(bytes);
+ *     steyrbunk_camera told[STEYRBUNK_MOST_CAMERAS];
+ *     uint32_t answer = steyrbunk_arch_in(cameras, frames, frames_len, workspace, bytes, list, 3 * 8192, told);
+ *     for (size_t i = 0; answer == 0 && i < cameras; i++)
+ *         if (told[i].answer > 1) fprintf(stderr, "camera %zu: %s\n", i, steyrbunk_words((uint32_t)told[i].answer));
+ *         else use(steyrbunk_share(list, 3 * 8192, cameras, i), told[i].count);
  */
 #ifndef STEYRBUNK_EASY_H
 #define STEYRBUNK_EASY_H
@@ -61,6 +71,27 @@ static inline size_t steyrbunk_workspace(size_t width, size_t height, const stey
     return 24 * pixels + (pixels + 3) / 4 * 4;
 }
 
+/* A workspace as seven buffers of so many entries each. */
+typedef struct {
+    uint32_t *row, *col, *falling, *rising;
+    float *response, *scratch;
+    uint8_t *working;
+} steyrbunk_parts;
+
+static inline steyrbunk_parts steyrbunk_apart(void *workspace, size_t entries) {
+    uint32_t *words = (uint32_t *)workspace;
+    steyrbunk_parts parts = {words, words, words, words, (float *)words, (float *)words, (uint8_t *)words};
+    if (entries != 0) { /* no steps from a workspace that may be null */
+        parts.col = parts.row + entries;
+        parts.falling = parts.col + entries;
+        parts.rising = parts.falling + entries;
+        parts.response = (float *)(parts.rising + entries);
+        parts.scratch = parts.response + entries;
+        parts.working = (uint8_t *)(parts.scratch + entries);
+    }
+    return parts;
+}
+
 /* Map and list of an image. The arguments are those of steyrbunk_find, but for the workspace, which must be
  * aligned as malloc aligns, or at least to four bytes. What it held before changes nothing; with an answer
  * above 1 it is as it was. A workspace that is too short: 9, by the same order as the other answers.
@@ -71,16 +102,63 @@ static inline uint32_t steyrbunk_find_in(
     size_t pixels = steyrbunk_working_pixels(width, height, settings);
     /* Where it is too short no buffer is lent, and the answer is the library's. */
     size_t entries = workspace_len < steyrbunk_workspace(width, height, settings) ? 0 : pixels;
-    uint32_t *words = (uint32_t *)workspace;
-    uint32_t *row = words, *col = row + entries, *falling = col + entries, *rising = falling + entries;
-    float *response = (float *)(rising + entries), *scratch = response + entries;
-    uint8_t *working = (uint8_t *)(scratch + entries);
+    steyrbunk_parts in = steyrbunk_apart(workspace, entries);
     size_t w, h;
     return steyrbunk_find(
         image, image_len, width, height, settings->ray_radius, settings->image_upsample,
         settings->response_blur_radius, settings->peak_fit, settings->threshold_rel, settings->nms_radius,
-        settings->min_cluster_size, working, entries, row, entries, col, entries, falling, entries, rising, entries,
-        response, entries, scratch, entries, list, list_len, count, &w, &h);
+        settings->min_cluster_size, in.working, entries, in.row, entries, in.col, entries, in.falling, entries,
+        in.rising, entries, in.response, entries, in.scratch, entries, list, list_len, count, &w, &h);
+}
+
+/* A number of a frame file, the highest of its bytes first. */
+static inline size_t steyrbunk_number(const uint8_t *at, size_t bytes) {
+    size_t number = 0;
+    for (size_t i = 0; i < bytes; i++) number = 256 * number + at[i];
+    return number;
+}
+
+/* Bytes that a workspace needs for every frame of an arch: those of the greatest; a frame that is refused for
+ * its sizes needs none. */
+static inline size_t steyrbunk_arch_workspace(const uint8_t *frames, size_t frames_len) {
+    size_t most = 0;
+    for (size_t i = 0; i < STEYRBUNK_MOST_CAMERAS && frames_len >= 5; i++) {
+        size_t length = steyrbunk_number(frames + 1, 4);
+        if (length > frames_len - 5) break;
+        if (length >= 15) {
+            steyrbunk_settings settings = steyrbunk_defaults();
+            size_t width = steyrbunk_number(frames + 5, 2), height = steyrbunk_number(frames + 7, 2);
+            settings.image_upsample = frames[10];
+            size_t bytes = width * height == length - 15 ? steyrbunk_workspace(width, height, &settings) : 0;
+            most = bytes > most ? bytes : most;
+        }
+        frames += 5 + length, frames_len -= 5 + length;
+    }
+    return most;
+}
+
+/* Entries that each buffer of a workspace can have: four take 100 bytes, and the first of fewer takes a word of
+ * the working image. */
+static inline size_t steyrbunk_entries(size_t workspace_len) {
+    size_t rest = workspace_len % 100;
+    return workspace_len / 100 * 4 + (rest < 4 ? 0 : (rest - 4) / 24);
+}
+
+/* All cameras of an arch. The arguments are those of steyrbunk_arch, but for the workspace, which is aligned as
+ * for steyrbunk_find_in: a camera for which it is too short is told 9 and stops nobody. */
+static inline uint32_t steyrbunk_arch_in(
+    size_t cameras, const uint8_t *frames, size_t frames_len, void *workspace, size_t workspace_len,
+    float *list, size_t list_len, steyrbunk_camera told[8]) {
+    size_t n = steyrbunk_entries(workspace_len);
+    steyrbunk_parts in = steyrbunk_apart(workspace, n);
+    return steyrbunk_arch(
+        cameras, frames, frames_len, in.working, n, in.row, n, in.col, n, in.falling, n, in.rising, n,
+        in.response, n, in.scratch, n, list, list_len, told);
+}
+
+/* Where camera i, counted from 0, has its corners in the list of an arch that was answered 0. */
+static inline const float *steyrbunk_share(const float *list, size_t list_len, size_t cameras, size_t i) {
+    return list + i * (list_len / 3 / cameras * 3);
 }
 
 /* The record of the corners that steyrbunk_find_in listed for an image of these sides, with answer 0: after answer 1 the list
@@ -113,12 +191,16 @@ static inline const char *steyrbunk_words(uint32_t answer) {
     case 7: return "the suppression radius is over 32";
     case 8: return "the threshold is not a number from 0 to 1";
     case 9: return "a lent buffer is too short";
+    case 11: return "the frame file has under 20 bytes";
+    case 12: return "the frame file's version is not 1";
+    case 13: return "the frame file does not have the length that it states";
     case 14: return "the mode is neither 0 (parabolic) nor 1 (Gaussian)";
     case 16: return "the record has under 13 bytes or not the length that it states";
     case 17: return "the record's version is not 1";
     case 18: return "the record's count and length disagree, or there are over 8,388,608 corners";
     case 19: return "a number of the list is not finite";
     case 20: return "the output is too short";
+    case 21: return "the camera count is not 2 to 8, or the list has less than one corner a camera";
     default: return "an answer that this header does not know";
     }
 }

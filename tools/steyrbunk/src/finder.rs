@@ -1,5 +1,7 @@
 //! The finder that owns its buffers and gives back an owned list.
 
+use crate::arch::{share, whole, MOST};
+use crate::frame::Frame;
 use crate::lent::{self, Answer, Image, View};
 use crate::refusal::Refusal;
 use crate::settings::Settings;
@@ -140,14 +142,45 @@ fn working_pixels(image: Image, factor: usize) -> usize {
     }
 }
 
+/// Working pixels of a frame file that is taken apart, and has sizes that are taken; else 0.
+fn file_pixels(file: &[u8]) -> usize {
+    Frame::parse(file).map_or(0, |frame| {
+        working_pixels(frame.image, frame.settings.factor())
+    })
+}
+
 /// The first corners of a list.
-pub(crate) fn corners(list: &[f32], count: usize) -> Vec<Corner> {
+fn corners(list: &[f32], count: usize) -> Vec<Corner> {
     let corner = |place: &[f32]| Corner {
         x: place[0],
         y: place[1],
         strength: place[2],
     };
     list.chunks_exact(3).take(count).map(corner).collect()
+}
+
+/// What was found, with an answer that is no refusal and whose corners all fit.
+pub(crate) fn found(list: &[f32], answer: Answer) -> Found {
+    Found {
+        corners: corners(list, answer.count),
+        width: answer.width,
+        height: answer.height,
+    }
+}
+
+/// The most corners of a camera whose share is too short for them.
+fn overflowing(told: &[Answer]) -> Option<usize> {
+    let full = |answer: &&Answer| answer.number == Answer::LIST_FULL;
+    told.iter().filter(full).map(|answer| answer.count).max()
+}
+
+/// What each camera found in its share, or why it was refused.
+fn by_camera(told: &[Answer], list: &[f32]) -> Vec<Result<Found, Refusal>> {
+    let one = |(i, answer): (usize, &Answer)| {
+        let share = &list[share(list.len(), told.len(), i)];
+        answer.accepted().map(|answer| found(share, answer))
+    };
+    told.iter().enumerate().map(one).collect()
 }
 
 /// All corners of a map, in a list that grows until they fit.
@@ -186,6 +219,27 @@ impl Finder {
         })
     }
 
+    /// What each camera of an arch found, or why it was refused; `frames` has their frame files end to end. 21 where
+    /// the camera count is not 2 to 8.
+    pub fn arch(
+        &mut self,
+        cameras: usize,
+        frames: &[u8],
+    ) -> Result<Vec<Result<Found, Refusal>>, Refusal> {
+        self.last = Sizes::default();
+        let pixels = whole(frames).take(MOST).map(file_pixels).max();
+        self.buffers.grow(pixels.unwrap_or(0));
+        grow(&mut self.list, 3 * FIRST_ROOM * MOST);
+        loop {
+            let told = lent::arch(cameras, frames, self.buffers.lend(), &mut self.list);
+            let told = &told.accepted()?[..cameras];
+            let Some(most) = overflowing(told) else {
+                return Ok(by_camera(told, &self.list));
+            };
+            grow(&mut self.list, 3 * most * cameras);
+        }
+    }
+
     /// The map of an image; the settings that only the list uses are not looked at.
     pub fn response(&mut self, image: Image, settings: &Settings) -> Result<Map<'_>, Refusal> {
         self.prepare(image, settings);
@@ -200,7 +254,7 @@ impl Finder {
         listed(&mut self.list, view, settings)
     }
 
-    /// The map of the last image, empty if it was refused.
+    /// The map of the last image, empty if it was refused, and after an arch.
     pub fn map(&self) -> Map<'_> {
         self.buffers.map(self.last)
     }

@@ -1,5 +1,6 @@
 //! Safe calls over buffers that the caller lends: the C interface with slices for pointers.
 
+use crate::arch;
 use crate::raw;
 use crate::refusal::Refusal;
 use crate::settings::Settings;
@@ -55,6 +56,23 @@ impl Answer {
     }
 }
 
+/// What an arch is told: the call's own number, 0 or 21, and an answer for each of eight cameras. Those beyond the
+/// camera count read 11, as a camera without a frame; with 21 all read 21.
+#[derive(Clone, Copy, Debug, PartialEq, Eq)]
+pub struct ArchAnswer {
+    pub number: u32,
+    pub cameras: [Answer; arch::MOST],
+}
+
+impl ArchAnswer {
+    pub fn accepted(self) -> Result<[Answer; arch::MOST], Refusal> {
+        match self.number {
+            Answer::COMPLETE => Ok(self.cameras),
+            number => Err(Refusal::from_number(number)),
+        }
+    }
+}
+
 /// What count and sizes hold before a call: the library writes them with every answer, so this is never seen.
 const UNWRITTEN: usize = usize::MAX;
 
@@ -66,21 +84,14 @@ const UNTOLD: Answer = Answer {
     height: UNWRITTEN,
 };
 
-/// An entry that takes an image and the buffers; what else it takes stands between them and behind.
+/// An entry that takes the buffers; what else it takes stands before them and behind.
 macro_rules! call {
-    ($entry:ident, $image:ident, $settings:ident, [$($between:expr),*], $lent:ident, [$($behind:expr),*]) => {
+    ($entry:ident, [$($before:expr),*], $lent:ident, [$($behind:expr),*]) => {
         // SAFETY: each pointer comes with the length of the slice it was taken from, the slices that
         // are written are borrowed exclusively, and the library touches nothing beyond them.
         unsafe {
             raw::$entry(
-                $image.pixels.as_ptr(),
-                $image.pixels.len(),
-                $image.width,
-                $image.height,
-                $settings.ray_radius,
-                $settings.image_upsample,
-                $settings.response_blur_radius,
-                $($between,)*
+                $($before,)*
                 $lent.working.as_mut_ptr(),
                 $lent.working.len(),
                 $lent.row_cumsum.as_mut_ptr(),
@@ -98,6 +109,27 @@ macro_rules! call {
                 $($behind),*
             )
         }
+    };
+}
+
+/// One that takes an image; the settings that only the list uses stand between it and the buffers.
+macro_rules! image_call {
+    ($entry:ident, $image:ident, $settings:ident, [$($between:expr),*], $lent:ident, [$($behind:expr),*]) => {
+        call!(
+            $entry,
+            [
+                $image.pixels.as_ptr(),
+                $image.pixels.len(),
+                $image.width,
+                $image.height,
+                $settings.ray_radius,
+                $settings.image_upsample,
+                $settings.response_blur_radius
+                $(, $between)*
+            ],
+            $lent,
+            [$($behind),*]
+        )
     };
 }
 
@@ -121,7 +153,7 @@ pub fn find_by(
     list: &mut [f32],
 ) -> Answer {
     let (mut count, mut width, mut height) = (UNWRITTEN, UNWRITTEN, UNWRITTEN);
-    let number = call!(
+    let number = image_call!(
         steyrbunk_find,
         image,
         settings,
@@ -148,10 +180,36 @@ pub fn find_by(
     }
 }
 
+/// All cameras of an arch: `frames` has their frame files end to end, and each camera has its share of the list
+/// ([`arch::share`]).
+pub fn arch(cameras: usize, frames: &[u8], lent: Buffers, list: &mut [f32]) -> ArchAnswer {
+    let mut told = [raw::Camera {
+        answer: UNWRITTEN,
+        count: UNWRITTEN,
+        w: UNWRITTEN,
+        h: UNWRITTEN,
+    }; arch::MOST];
+    let number = call!(
+        steyrbunk_arch,
+        [cameras, frames.as_ptr(), frames.len()],
+        lent,
+        [list.as_mut_ptr(), list.len(), told.as_mut_ptr()]
+    );
+    ArchAnswer {
+        number,
+        cameras: told.map(|camera| Answer {
+            number: camera.answer.try_into().unwrap_or(u32::MAX),
+            count: camera.count,
+            width: camera.w,
+            height: camera.h,
+        }),
+    }
+}
+
 /// The map of an image; of the settings only the first three are looked at.
 pub fn response(image: Image, settings: &Settings, lent: Buffers) -> Answer {
     let (mut width, mut height) = (UNWRITTEN, UNWRITTEN);
-    let number = call!(
+    let number = image_call!(
         steyrbunk_response,
         image,
         settings,

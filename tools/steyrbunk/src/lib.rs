@@ -3,8 +3,9 @@
 //! [`Finder`] keeps the buffers, 25 bytes a working pixel, from frame to frame. [`lent`] is the layer
 //! beneath it, where the caller lends each buffer; [`raw`] is the C interface itself. [`limits`] has the
 //! greatest sizes and radii, [`scalar`] the finder's root and logarithm. [`mod@record`] keeps what was found as bytes and
-//! reads it back.
+//! reads it back. [`arch`] has all cameras of an arch in one call.
 
+pub mod arch;
 mod finder;
 pub mod frame;
 pub mod lent;

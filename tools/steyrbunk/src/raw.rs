@@ -1,18 +1,11 @@
 //! The C interface of the static library, argument for argument as in `include/steyrbunk.h`.
 
-/// An entry that takes an image and the buffers; what else it takes stands between them and behind.
+/// An entry that takes the buffers; what else it takes stands before them and behind.
 macro_rules! entry {
-    ($name:ident($($between:ident: $setting:ty),*; $($behind:ident: $told:ty),*)) => {
+    ($name:ident($($before:ident: $read:ty),*; $($behind:ident: $told:ty),*)) => {
         extern "C" {
             pub fn $name(
-                image: *const u8,
-                image_len: usize,
-                width: usize,
-                height: usize,
-                ray_radius: u32,
-                image_upsample: u32,
-                response_blur_radius: u32,
-                $($between: $setting,)*
+                $($before: $read,)*
                 working: *mut u8,
                 working_len: usize,
                 row_cumsum: *mut u32,
@@ -33,11 +26,36 @@ macro_rules! entry {
     };
 }
 
-entry!(steyrbunk_find(
+/// One that takes an image; the settings that only the list uses stand between it and the buffers.
+macro_rules! image_entry {
+    ($name:ident($($between:ident: $setting:ty),*; $($behind:ident: $told:ty),*)) => {
+        entry!($name(
+            image: *const u8, image_len: usize, width: usize, height: usize,
+            ray_radius: u32, image_upsample: u32, response_blur_radius: u32 $(, $between: $setting)*;
+            $($behind: $told),*));
+    };
+}
+
+image_entry!(steyrbunk_find(
     peak_fit: u32, threshold_rel: f32, nms_radius: u32, min_cluster_size: u32;
     list: *mut f32, list_len: usize, count: *mut usize, w: *mut usize, h: *mut usize));
 
-entry!(steyrbunk_response(; w: *mut usize, h: *mut usize));
+image_entry!(steyrbunk_response(; w: *mut usize, h: *mut usize));
+
+/// What a camera of an arch is told.
+#[derive(Clone, Copy)]
+#[repr(C)]
+pub struct Camera {
+    pub answer: usize,
+    pub count: usize,
+    pub w: usize,
+    pub h: usize,
+}
+
+// Eight cameras are told, however many there are.
+entry!(steyrbunk_arch(
+    cameras: usize, frames: *const u8, frames_len: usize;
+    list: *mut f32, list_len: usize, told: *mut Camera));
 
 extern "C" {
     pub fn steyrbunk_peaks(

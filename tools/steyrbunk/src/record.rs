@@ -2,7 +2,7 @@
 //!
 //! [`bytes`] and [`parse`] own what they give; [`lent::write_record`] and [`lent::read_record`] are beneath them.
 
-use crate::finder::{corners, Corner, Found};
+use crate::finder::{found, Corner, Found};
 use crate::lent;
 use crate::refusal::Refusal;
 
@@ -35,11 +35,7 @@ pub fn parse(record: &[u8]) -> Result<Found, Refusal> {
     let room = record.len().saturating_sub(HEAD) / CORNER;
     let mut list = vec![0.0; 3 * room.min(limits::RECORD_CORNERS)];
     let answer = lent::read_record(record, &mut list).accepted()?;
-    Ok(Found {
-        corners: corners(&list, answer.count),
-        width: answer.width,
-        height: answer.height,
-    })
+    Ok(found(&list, answer))
 }
 
 fn numbers(corner: &Corner) -> [f32; 3] {

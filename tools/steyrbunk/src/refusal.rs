@@ -22,13 +22,14 @@ pub enum Refusal {
     CornerCount,
     NotFinite,
     OutputTooShort,
+    Cameras,
     /// A number that a newer library gives and this wrapper does not know.
     Unknown(u32),
 }
 
 use Refusal::*;
 
-const TABLE: [(u32, Refusal, &str); 18] = [
+const TABLE: [(u32, Refusal, &str); 19] = [
     (2, SideTooLong, "width or height is over 4,096 pixels"),
     (
         3,
@@ -67,6 +68,11 @@ const TABLE: [(u32, Refusal, &str); 18] = [
     ),
     (19, NotFinite, "a number of the list is not finite"),
     (20, OutputTooShort, "the output is too short"),
+    (
+        21,
+        Cameras,
+        "the camera count is not 2 to 8, or the list has less than one corner a camera",
+    ),
 ];
 
 impl Refusal {

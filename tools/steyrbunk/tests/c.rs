@@ -10,7 +10,7 @@ use std::{env, fs};
 
 use common::{frame, image};
 use judge::{Frame, Kind};
-use steyrbunk::{limits, record, Finder, PeakFit, Refusal, Settings};
+use steyrbunk::{arch, limits, record, Finder, PeakFit, Refusal, Settings};
 
 /// The example as a program.
 fn compiled(name: &str) -> Option<PathBuf> {
@@ -41,7 +41,7 @@ fn built(name: &str, file: &str) -> Option<PathBuf> {
             .output()
             .ok()
     };
-    let sanitized = with(&["-fsanitize=address,undefined"])?;
+    let sanitized = with(&["-fsanitize=address,undefined", "-fno-sanitize-recover=all"])?;
     if !sanitized.status.success() {
         let plain = with(&[])?;
         assert!(
@@ -138,13 +138,7 @@ fn the_example() {
     }
     // More corners than the example has room for: it says that its list is cut.
     let (width, height) = (1024, 1024);
-    let shade = |at: usize| {
-        if (at % width / 5 + at / width / 5) % 2 == 0 {
-            40
-        } else {
-            190
-        }
-    };
+    let shade = |at: usize| [40, 190][(at % width / 5 + at / width / 5) % 2];
     let mut many = format!("P5 {width} {height} 255\n").into_bytes();
     many.extend((0..width * height).map(shade));
     let output = run(&program, &many);
@@ -179,14 +173,14 @@ fn the_easy_calls() {
     assert_eq!(text, "all answers as they should be\n");
 }
 
-/// C and Python have the wrapper's words for every answer that the library gives; 10 to 13 are for files, which it does not read.
+/// C and Python have the wrapper's words for every answer that the library gives; 10 is the program's alone.
 #[test]
 fn the_words() {
     let (header, python) = (
         read("include/steyrbunk_easy.h"),
         read("../../python/steyrbunk.py"),
     );
-    for number in (2..=20).filter(|number| ![10, 11, 12, 13, 15].contains(number)) {
+    for number in (2..=21).filter(|number| ![10, 15].contains(number)) {
         let refusal = Refusal::from_number(number);
         assert_ne!(refusal, Refusal::Unknown(number));
         let sentence = refusal.sentence();
@@ -253,7 +247,14 @@ fn read(name: &str) -> String {
 #[test]
 fn the_header_and_the_declarations() {
     let (header, raw) = (read("include/steyrbunk.h"), read("src/raw.rs"));
-    for name in ["find", "response", "peaks", "write_record", "read_record"] {
+    for name in [
+        "find",
+        "response",
+        "peaks",
+        "arch",
+        "write_record",
+        "read_record",
+    ] {
         let name = format!("steyrbunk_{name}");
         assert_eq!(in_c(&header, "uint32_t ", &name), in_rust(&raw, &name));
     }
@@ -288,6 +289,8 @@ fn the_header_and_the_limits() {
         ("GREATEST_BLUR_RADIUS", limits::BLUR),
         ("GREATEST_NMS_RADIUS", limits::SUPPRESSION),
         ("GREATEST_RECORD_CORNERS", limits::RECORD_CORNERS as u32),
+        ("FEWEST_CAMERAS", arch::FEWEST as u32),
+        ("MOST_CAMERAS", arch::MOST as u32),
         ("RAY_RADIUS", ray_radius),
         ("IMAGE_UPSAMPLE", image_upsample),
         ("RESPONSE_BLUR_RADIUS", response_blur_radius),
@@ -333,7 +336,9 @@ fn in_c(header: &str, result: &str, name: &str) -> String {
     for argument in plain.split(',') {
         let words = argument.split_whitespace().collect::<Vec<_>>().join(" ");
         let (kind, name) = words.rsplit_once(' ').expect("type and name");
-        let (pointer, name) = (name.starts_with('*'), name.trim_start_matches('*'));
+        let array = name.split_once('[');
+        let pointer = name.starts_with('*') || array.is_some();
+        let name = array.map_or(name, |(name, _)| name).trim_start_matches('*');
         writeln!(
             list,
             "{name}: {}",
@@ -348,15 +353,21 @@ fn in_c(header: &str, result: &str, name: &str) -> String {
     list
 }
 
-/// The arguments as they are written out, or as the macro for two entries puts them together.
+/// The arguments as they are written out, or as the macros for entries with buffers put them together.
 fn declared(raw: &str, name: &str) -> String {
-    let Some((_, call)) = raw.split_once(&format!("entry!({name}(")) else {
+    let Some((until, call)) = raw.split_once(&format!("entry!({name}(")) else {
         return arguments(raw, "pub fn ", name).to_string();
     };
     let own = call.split_once("));").expect("closed").0;
-    let (between, behind) = own.split_once(';').expect("two parts");
+    let (own_before, behind) = own.split_once(';').expect("two parts");
+    let image = raw.split_once("entry!($name(").expect("the macro").1;
+    let image = image.split_once("$(,").expect("what stands between").0;
+    let before = match until.ends_with("image_") {
+        true => format!("{image}, {own_before}"),
+        false => own_before.to_string(),
+    };
     arguments(raw, "pub fn ", "$name")
-        .replace("$($between: $setting,)*", &format!("{between},"))
+        .replace("$($before: $read,)*", &format!("{before},"))
         .replace("$($behind: $told),*", behind)
 }
 
@@ -368,6 +379,7 @@ fn in_rust(raw: &str, name: &str) -> String {
         "u32" => "uint32_t",
         "usize" => "size_t",
         "f32" => "float",
+        "Camera" => "steyrbunk_camera",
         other => panic!("{other}"),
     };
     for argument in declared(raw, name).split(',') {

@@ -1,5 +1,5 @@
-/* Every answer through steyrbunk_easy.h: workspaces and records of the right length and one byte less, and what they held
- * before. */
+/* Every answer through steyrbunk_easy.h: workspaces, records and arches of the right length and one byte less, and what they
+ * held before. */
 #include <stdio.h>
 #include <stdlib.h>
 #include <string.h>
@@ -73,6 +73,81 @@ static void records(const steyrbunk_settings *settings) {
     free(record), free(shorter), free(back);
 }
 
+static int told_is(const steyrbunk_camera *camera, size_t answer, size_t count, size_t side) {
+    return camera->answer == answer && camera->count == count && camera->w == side && camera->h == side;
+}
+
+/* Document 01's frame as the files of so many cameras, in memory that ends where they do. */
+static uint8_t *files(size_t cameras) {
+    static const uint8_t head[20] = {1, 0, 0, 0, 64, 0, 7, 0, 7, 1, 1, 0, 0, 1, 0, 2, 0x3E, 0x8F, 0x5C, 0x29};
+    uint8_t *all = malloc(69 * cameras);
+    for (size_t i = 0; i < cameras; i++) memcpy(all + 69 * i, head, 20), memcpy(all + 69 * i + 20, frame, 49);
+    return all;
+}
+
+/* An arch over a workspace of so many bytes, in a list of one corner a camera and two numbers left over; what is beyond the
+ * corners, and with `same` the whole list and workspace, must stay. */
+static uint32_t arch(size_t cameras, const uint8_t *frames, size_t len, size_t bytes, float *list, int same, steyrbunk_camera *told) {
+    unsigned char *workspace = malloc(bytes + 1), *before = malloc(bytes + 1);
+    size_t numbers = 3 * cameras + 2;
+    memset(workspace, 0x5A, bytes), memset(before, 0x5A, bytes), memset(told, 0x5A, 8 * sizeof *told);
+    for (size_t at = 0; at < numbers; at++) list[at] = 7;
+    uint32_t answer = steyrbunk_arch_in(cameras, frames, len, workspace, bytes, list, numbers, told);
+    for (size_t at = same ? 0 : 3 * cameras; at < numbers; at++) check(list[at] == 7, "numbers left over");
+    check(!same || memcmp(workspace, before, bytes) == 0, "a refused arch changed the workspace");
+    free(workspace), free(before);
+    return answer;
+}
+
+static void arches(void) {
+    steyrbunk_camera told[STEYRBUNK_MOST_CAMERAS];
+    float list[3 * 8 + 2];
+    for (size_t pixels = 0; pixels < 300; pixels++) {
+        size_t bytes = 24 * pixels + (pixels + 3) / 4 * 4;
+        check(steyrbunk_entries(bytes) == pixels && (!pixels || steyrbunk_entries(bytes - 1) == pixels - 1), "entries");
+    }
+    for (size_t cameras = STEYRBUNK_FEWEST_CAMERAS; cameras <= STEYRBUNK_MOST_CAMERAS; cameras++) {
+        size_t len = 69 * cameras, last = cameras - 1;
+        uint8_t *frames = files(cameras);
+        size_t bytes = steyrbunk_arch_workspace(frames, len);
+        check(bytes == 24 * 49 + 52, "the workspace of an arch");
+        check(arch(cameras, frames, len, bytes, list, 0, told) == 0, "an arch");
+        for (size_t i = 0; i < STEYRBUNK_MOST_CAMERAS; i++) {
+            check(i < cameras ? told_is(told + i, 0, 1, 7) : told_is(told + i, 11, 0, 0), "each camera");
+            const float *share = steyrbunk_share(list, 3 * cameras + 2, cameras, i);
+            check(i >= cameras || (share[0] == 3 && share[1] == 3 && share[2] == 160000), "each share");
+        }
+        check(arch(cameras, frames, len, bytes - 1, list, 1, told) == 0 && told_is(told, 9, 0, 0) && told_is(told + last, 9, 0, 0), "9");
+        frames[0] = 2, frames[69 + 12] = 2;
+        check(arch(cameras, frames, len, bytes, list, cameras == 2, told) == 0, "an arch with two refused");
+        check(told_is(told, 12, 0, 0) && told_is(told + 1, 14, 0, 0) && (cameras == 2 || told_is(told + 2, 0, 1, 7)), "12 and 14");
+        check(list[0] == 7 && list[3] == 7, "the shares of the refused");
+        frames[0] = 1, frames[69 + 12] = 0;
+        check(arch(cameras, frames, len - 1, bytes, list, 0, told) == 0 && told_is(told + last - 1, 0, 1, 7), "a cut arch");
+        check(told_is(told + last, 13, 0, 0), "13");
+        check(arch(cameras, frames, len - 69 + 4, bytes, list, 0, told) == 0 && told_is(told + last, 11, 0, 0), "11");
+        memset(frames + 1, 0xFF, 4);
+        check(steyrbunk_arch_workspace(frames, len) == 0, "the workspace of a frame that runs past the end");
+        check(arch(cameras, frames, len, 0, list, 1, told) == 0 && told_is(told, 13, 0, 0) && told_is(told + 1, 11, 0, 0), "13 first");
+        free(frames);
+    }
+    check(arch(2, NULL, 0, 0, list, 1, told) == 0 && told_is(told, 11, 0, 0) && told_is(told + 7, 11, 0, 0), "no frames");
+    for (size_t i = 0; i < 5; i++) {
+        static const size_t cameras[5] = {0, 1, 9, (size_t)-1, 2};
+        size_t numbers = cameras[i] == 2 ? 5 : 26;
+        memset(told, 0x5A, sizeof told);
+        check(steyrbunk_arch_in(cameras[i], NULL, 0, NULL, 0, list, numbers, told) == 21, "21");
+        for (size_t at = 0; at < STEYRBUNK_MOST_CAMERAS; at++) check(told_is(told + at, 21, 0, 0), "all are told 21");
+    }
+    uint8_t *sizes = files(1);
+    sizes[6] = 8;
+    check(steyrbunk_arch_workspace(sizes, 69) == 0, "the workspace of sizes that are refused");
+    sizes[6] = 7, sizes[10] = 2;
+    check(steyrbunk_arch_workspace(sizes, 69) == 25 * 196, "the workspace at factor 2");
+    check(steyrbunk_arch_workspace(sizes, 68) == 0 && steyrbunk_arch_workspace(sizes, 4) == 0, "the workspace of a cut frame");
+    free(sizes);
+}
+
 int main(void) {
     for (int at = 0; at < 49; at++) {
         int side = (at % 7 - 3) * (at / 7 - 3);
@@ -105,6 +180,7 @@ int main(void) {
     other.threshold_rel = 1.5f, check(find(other, 7, 7, 49, 0, 1, &count, list) == 8, "8"), other = one;
     other.peak_fit = 2, check(find(other, 7, 7, 49, 0, 1, &count, list) == 14, "14"), other = one;
     records(&one);
+    arches();
     check(strcmp(steyrbunk_words(5), "the ray radius is over 7") == 0, "words");
     check(strcmp(steyrbunk_words(99), steyrbunk_words(15)) == 0, "words of what is not known");
     if (!wrong) puts("all answers as they should be");

@@ -5,7 +5,7 @@ mod common;
 use common::{frame, image, Lent, DOCUMENT};
 use judge::{document_frame, Kind};
 use steyrbunk::lent::{self, Answer, Buffers, View};
-use steyrbunk::{limits, Finder, Image, Refusal, Settings};
+use steyrbunk::{arch, limits, Finder, Image, Refusal, Settings};
 
 fn refused(number: u32) -> Answer {
     Answer {
@@ -451,7 +451,7 @@ fn the_lists_own_entry() {
 
 #[test]
 fn numbers_and_names() {
-    for number in (2..=20).filter(|number| *number != 15) {
+    for number in (2..=21).filter(|number| *number != 15) {
         let refusal = Refusal::from_number(number);
         assert_ne!(refusal, Refusal::Unknown(number));
         assert_eq!(refusal.number(), number);
@@ -467,6 +467,8 @@ fn numbers_and_names() {
         (6, limits::BLUR as usize),
         (7, limits::SUPPRESSION as usize),
         (18, limits::RECORD_CORNERS),
+        (21, arch::FEWEST),
+        (21, arch::MOST),
     ] {
         let sentence = Refusal::from_number(number).sentence().replace(',', "");
         let said = sentence.split(' ').any(|word| word == limit.to_string());

@@ -60,7 +60,7 @@ impl Lent {
     }
 
     /// Lends everything to a call, and takes it back with the answer.
-    pub fn lend(&mut self, call: impl FnOnce(Buffers, &mut [f32]) -> Answer) -> Answer {
+    pub fn lend<Told>(&mut self, call: impl FnOnce(Buffers, &mut [f32]) -> Told) -> Told {
         let floats = |words: &[u32]| {
             words
                 .iter()

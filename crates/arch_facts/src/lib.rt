@@ -1,0 +1,1 @@
+// What holds of a call for all cameras of an arch. There is no code here.
