@@ -1,7 +1,6 @@
 // Replays corner records, read and written, and compares with what tools/record_vectors.py lists: the answer, the count and the sides of each call,
 // what it wrote, to the bit, and that every other entry of the lent buffer is as it was.
 use libc::STDIN_FILENO;
-use libc::STDOUT_FILENO;
 use params::Outcome;
 use replay::Walk;
 
@@ -62,18 +61,8 @@ fn report(s: &[u8], walk: Walk, reads: &[usize; 32], writes: &[usize; 32]) {
 
 fn tell_calls(name: &[u8], calls: &[usize; 32]) {
     tell::say(name, calls[ALL]);
-    tell_answer(0, calls[0]);
-    tell_answer(16, calls[16]);
-    tell_answer(17, calls[17]);
-    tell_answer(18, calls[18]);
-    tell_answer(19, calls[19]);
-    tell_answer(20, calls[20]);
-}
-
-fn tell_answer(answer: u64, n: usize) {
-    io::write_all(STDOUT_FILENO, b"of these answered ");
-    io::print_decimal(STDOUT_FILENO, answer);
-    tell::say(b"", n);
+    tell::each(b"of these answered ", calls, 0, 1);
+    tell::each(b"of these answered ", calls, 16, 21);
 }
 
 // What was compared, and the place behind it: how many things disagree, what the vector is, and what it was answered.
@@ -95,15 +84,10 @@ fn vector(s: &[u8], at: usize) -> Compared {
     written(part, s, at, due)
 }
 
-// A word of a vector, so many bytes into it.
-fn field(s: &[u8], at: usize, n: usize) -> u64 {
-    vectors::word(s, vectors::skip(s, at, n))
-}
-
 // A record into a list, of which as much is lent as the vector says.
 fn read(file: &[u8], s: &[u8], at: usize, due: usize) -> Compared {
     let mut list = [vectors::float(OLD_NUMBER); 1024];
-    let room = vectors::capped(field(s, at, 12), NUMBERS);
+    let room = vectors::capped(vectors::field(s, at, 12), NUMBERS);
     let outcome = record::read_record(file, &mut list[0..room]);
     against(outcome, s, at, due, list_differs(list, s, due))
 }
@@ -113,7 +97,7 @@ fn written(patterns: &[u8], s: &[u8], at: usize, due: usize) -> Compared {
     let list = numbers(patterns);
     let n = vectors::capped((patterns.len() / 4) as u64, NUMBERS);
     let mut out = [OLD; 4096];
-    let room = vectors::capped(field(s, at, 12), BYTES);
+    let room = vectors::capped(vectors::field(s, at, 12), BYTES);
     let w = side(s, at, 4);
     let h = side(s, at, 8);
     let outcome = record::write_record(w, h, &list[0..n], &mut out[0..room]);
@@ -132,7 +116,7 @@ fn numbers(patterns: &[u8]) -> [f32; 1024] {
 }
 
 fn side(s: &[u8], at: usize, n: usize) -> u16 {
-    vectors::capped(field(s, at, n), MAX_SIDE) as u16
+    vectors::capped(vectors::field(s, at, n), MAX_SIDE) as u16
 }
 
 // The numbers that are due, and behind them those that were there before.
@@ -156,12 +140,12 @@ fn against(outcome: Outcome, s: &[u8], at: usize, due: usize, entries: usize) ->
     let answer = outcome.answer;
     let number = answer.number() as u64;
     let head = vectors::plus(
-        vectors::differ(number, field(s, at, 16)),
-        vectors::differ(outcome.count as u64, field(s, at, 20)),
+        vectors::differ(number, vectors::field(s, at, 16)),
+        vectors::differ(outcome.count as u64, vectors::field(s, at, 20)),
     );
     let sides = vectors::plus(
-        vectors::differ(outcome.w as u64, field(s, at, 24)),
-        vectors::differ(outcome.h as u64, field(s, at, 28)),
+        vectors::differ(outcome.w as u64, vectors::field(s, at, 24)),
+        vectors::differ(outcome.h as u64, vectors::field(s, at, 28)),
     );
     Compared {
         next: vectors::behind(s, due),

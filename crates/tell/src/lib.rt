@@ -22,3 +22,15 @@ pub fn say(name: &[u8], n: usize) {
     io::print_decimal(STDOUT_FILENO, n as u64);
     io::write_all(STDOUT_FILENO, b"\n");
 }
+
+// A line for each count from one place on and before another: a name, the place and the count.
+pub fn each(name: &[u8], counts: &[usize; 32], from: usize, to: usize) {
+    let end = vectors::capped(to as u64, 32);
+    let mut i = from;
+    while i < end {
+        io::write_all(STDOUT_FILENO, name);
+        io::print_decimal(STDOUT_FILENO, i as u64);
+        say(b"", counts[i]);
+        i += 1;
+    }
+}

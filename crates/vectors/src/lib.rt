@@ -63,6 +63,14 @@ pub fn skip(s: &[u8], at: usize, n: usize) -> usize
     at + n
 }
 
+// The word so many bytes behind a place.
+pub fn field(s: &[u8], at: usize, n: usize) -> u64
+    ensures value { λ r. ⌜ r ≡ wordAt (now (s .entry)) (min (at + n) (length (now (s .entry)))) ⌝ }
+    ensures most { λ r. ⌜ r ≤ 4294967296 ⌝ }
+{
+    word(s, skip(s, at, n))
+}
+
 // The bytes from a place to another, and none where that is no part.
 pub fn part(s: &[u8], from: usize, to: usize) -> &[u8]
     ensures { λ r. ⌜ Part (s .entry) from to r ⌝ }
