@@ -5,6 +5,7 @@ use Prim.Native.Nat.{ℕ, _+_, _-_, _*_, _≤_, _<_}
 use native.Mathlib.Nat.{le-antisymm}
 use native.Mathlib.Numerals.{add-one}
 use native.Mathlib.Omega.{arith}
+use lib.Ieee.{Float}
 use lib.ListN.{length, set, take, drop, replicate, length-drop, length-append, length-take}
 use lib.Seq.{take-all}
 use Rattle.grid.specs.Fill.{filled}
@@ -38,6 +39,20 @@ same-lengths b = record {
   response = refl;
   scratch = refl;
   list = refl;
+}
+
+-- of buffers c, as long as b, a call was lent the work buffers with some list, and left d of that
+pub lengths-on : {b c d : Buffers} {some l : List Float} → SameLengths b c → SameLengths (record { map = c .map; list = some }) d
+    → length l ≡ length (b .list) → SameLengths b (record { map = d .map; list = l })
+lengths-on s t e = record {
+  working = t .working ∙ s .working;
+  row = t .row ∙ s .row;
+  col = t .col ∙ s .col;
+  falling = t .falling ∙ s .falling;
+  rising = t .rising ∙ s .rising;
+  response = t .response ∙ s .response;
+  scratch = t .scratch ∙ s .scratch;
+  list = e;
 }
 
 -- a part of a list is replaced by one as long
@@ -129,18 +144,7 @@ module _ (frames : List ℕ) (size cameras : ℕ) (b : Buffers) where
     next-in gone = next-inside frames i (ran .inside) (ran .rest) (rw all at gone)
 
     lengths-back : {d : Buffers} → SameLengths given d → SameLengths b (returned d)
-    lengths-back {d} s =
-        let l = ran .long in
-        record {
-          working = s .working ∙ l .working;
-          row = s .row ∙ l .row;
-          col = s .col ∙ l .col;
-          falling = s .falling ∙ l .falling;
-          rising = s .rising ∙ l .rising;
-          response = s .response ∙ l .response;
-          scratch = s .scratch ∙ l .scratch;
-          list = length-back (i * size) part (c .list) (d .list) (s .list) ∙ l .list;
-        }
+    lengths-back {d} s = lengths-on (ran .long) s (length-back (i * size) part (c .list) (d .list) (s .list) ∙ ran .long .list)
 
     pub ran-turn : {o : Outcome} {d : Buffers} {n : ℕ} → o ≡ cameraOutcome rest (dueIn rest) given → d ≡ cameraBuffers rest (dueIn rest) given
         → n ≡ goneBy (dueIn rest) (length rest) → SameLengths given d → Ran frames size cameras b (returned d) (set out i o) (at + n) (i + 1)

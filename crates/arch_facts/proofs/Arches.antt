@@ -25,7 +25,7 @@ use Rattle.frame.specs.declared.Reading.the-variants.{Frame}
 use Rattle.frame.specs.FrameFile.{readOf}
 use Rattle.radon.specs.Finder.{Buffers, outcomeOf, buffersOf}
 use Rattle.radon.proofs.Left.{Accepted as FinderAccepted}
-use Rattle.radon.proofs.Lists.{roomIn}
+use Rattle.radon.proofs.Lists.{roomIn, ListFiltered, ListOpens}
 use Rattle.radon.proofs.Demands.{pixels, higher-setting, shorter-list, raised-frame-same-map}
 use Rattle.frame_runner.specs.FileAnswer.{outcomeFor, fileOutcome, buffersFor, fileBuffers}
 use Rattle.arch.specs.declared.ArchOutcome.{ArchOutcome}
@@ -43,7 +43,7 @@ use Rattle.arch_facts.proofs.Left.{Accepted, size, toldTo, shareLent, s
 use Rattle.arch_facts.proofs.Left.{writtenTo, workReach, scratchReach, LeavesAll, room, outcome-is, buffers-are}
 use Rattle.arch_facts.proofs.Left.{told-due, share-due, work-due, told-beyond}
 use Rattle.arch_facts.proofs.Left.{by-files, told-alike, shares-alike, work-alike, alone, single-long, alone-long}
-use Rattle.arch_facts.proofs.Lists.{ListFiltered, ListOpens, Finds, filtered, opens}
+use Rattle.arch_facts.proofs.Lists.{Finds, filtered, opens}
 use Rattle.arch_facts.proofs.Laid.{next-begins, later-ones, Stated, laid}
 use Rattle.arch_facts.proofs.Ten.{same-reading, told-not-ten, due-not-ten}
 
@@ -316,7 +316,7 @@ module _ (n : ℕ) (frames : List ℕ) (b : Buffers) (i : ℕ) (m : ℕ) (others
       → T (le (p .«threshold_rel») t) → p .«min_cluster_size» ≤ least
       → (toldTo n frames b i) .count ≤ size n b / stride → (toldTo n frames b i) .count ≤ size m c / stride
       → ListFiltered img w h p t least (single n frames b i) (single m others c j)
-      (toldTo n frames b i) (shareLeft n frames b i) (toldTo m others c j) (shareLeft m others c j)
+      (toldTo n frames b i) (toldTo m others c j) (shareLeft n frames b i) (shareLeft m others c j)
   higher-setting-by-frame img t least low high above more fits fits-too =
       let count = ap (λ (o : Outcome). o .count) (finds low .told) in
       filtered (finds low) (finds high)
@@ -326,7 +326,7 @@ module _ (n : ℕ) (frames : List ℕ) (b : Buffers) (i : ℕ) (m : ℕ) (others
   -- "A shorter list holds the opening corners of a longer one, with the same total."
   pub shorter-list-by-frame : (img : List ℕ) → Reads n frames b i img w h p → Reads m others c j img w h p → size n b ≤ size m c
       → ListOpens img w h p (single n frames b i) (single m others c j)
-      (toldTo n frames b i) (shareLeft n frames b i) (toldTo m others c j) (shareLeft m others c j)
+      (toldTo n frames b i) (toldTo m others c j) (shareLeft n frames b i) (shareLeft m others c j)
   shorter-list-by-frame img short long l =
       opens (finds short) (finds long)
       (shorter-list img w h p (single n frames b i) (single m others c j) (short .takes) (long .takes)

@@ -19,7 +19,7 @@ use Rattle.arch_plan.specs.declared.due.Due.{Due}
 use Rattle.arch_plan.specs.declared.due.Due.the-variants.{Whole, Refused}
 use Rattle.arch_plan.specs.Plan.{dueIn, restAt}
 use Rattle.arch.specs.Arch.{cameraOutcome, cameraBuffers, shareOf, lentTo, backFrom, leftBy, told}
-use Rattle.arch.proofs.Cameras.{SameLengths, same-lengths}
+use Rattle.arch.proofs.Cameras.{SameLengths, same-lengths, lengths-on}
 use Rattle.arch_plan.proofs.InList.{share-in}
 use Rattle.arch_facts.proofs.Parts.{put-long, part-put, drop-put, part-before-put, Wrote}
 use Rattle.arch_facts.proofs.Work.{Writes, writes-none, writes-then, with-lists, lengths-over}
@@ -133,17 +133,7 @@ module _ (frames : List ℕ) (size : ℕ) (b : Buffers) where
     long (suc i) l =
         let s = long i (omega arith) in
         let t = read-long (fileAt frames i) (readAt frames i) (lentAt i) in
-        let u = list-long i l (s .list) in
-        rw (next-is i) (record {
-          working = t .working ∙ s .working;
-          row = t .row ∙ s .row;
-          col = t .col ∙ s .col;
-          falling = t .falling ∙ s .falling;
-          rising = t .rising ∙ s .rising;
-          response = t .response ∙ s .response;
-          scratch = t .scratch ∙ s .scratch;
-          list = rw (list-next i) at u;
-        })
+        rw (next-is i) (lengths-on s t (rw (list-next i) at (list-long i l (s .list))))
 
     as-long : (i : ℕ) → i < n → length (listNow i) ≡ length (b .list)
     as-long i l = long i (omega arith) .list

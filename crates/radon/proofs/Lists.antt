@@ -185,21 +185,28 @@ module _ (img : List ℕ) (w h : ℕ) (p : RadonDetectorParams) (b : Buffers) (a
 abbrev pub passing : List ℕ → ℕ → ℕ → RadonDetectorParams → Float → ℕ → Buffers → List Place
 passing img w h p t n low = keep (passesHigher (raised p t n) (sideOf w p) (sideOf h p) (mapLeft img w h p low)) (cornersLeft img w h p low)
 
--- p, and p with a fraction t and a least count n, `raised p t n`
-pub record Filtered (img : List ℕ) (w h : ℕ) (p : RadonDetectorParams) (t : Float) (n : ℕ) (low high : Buffers) : Type 0 where
+-- p, and p with a fraction t and a least count n, `raised p t n`: of two calls over low and high, what they answered and left in their lists
+pub record ListFiltered (img : List ℕ) (w h : ℕ) (p : RadonDetectorParams) (t : Float) (n : ℕ) (low high : Buffers)
+    (lower higher : Outcome) (lower-left higher-left : List Float) : Type 0 where
   -- both leave the same map
   pub same-map : SameWritten (sideOf w p * sideOf h p) (p .«response_blur_radius»)
       ((buffersOf img w h p low) .map) ((buffersOf img w h (raised p t n) high) .map)
   -- the lower's count, answer and list
-  pub lower-count : (outcomeOf img w h p low) .count ≡ length (cornersLeft img w h p low)
-  pub lower-answer : (outcomeOf img w h p low) .answer ≡ Complete
-  pub lower-list : take (stride * length (cornersLeft img w h p low)) (listLeft img w h p low)
+  pub lower-count : lower .count ≡ length (cornersLeft img w h p low)
+  pub lower-answer : lower .answer ≡ Complete
+  pub lower-list : take (stride * length (cornersLeft img w h p low)) lower-left
       ≡ each (numbers p (mapLeft img w h p low)) (cornersLeft img w h p low)
   -- the higher's
-  pub higher-count : (outcomeOf img w h (raised p t n) high) .count ≡ length (passing img w h p t n low)
-  pub higher-answer : (outcomeOf img w h (raised p t n) high) .answer ≡ Complete
-  pub higher-list : take (stride * length (passing img w h p t n low)) (listLeft img w h (raised p t n) high)
+  pub higher-count : higher .count ≡ length (passing img w h p t n low)
+  pub higher-answer : higher .answer ≡ Complete
+  pub higher-list : take (stride * length (passing img w h p t n low)) higher-left
       ≡ each (numbers p (mapLeft img w h p low)) (passing img w h p t n low)
+
+-- the calls of the finder
+abbrev pub Filtered : List ℕ → ℕ → ℕ → RadonDetectorParams → Float → ℕ → Buffers → Buffers → Type 0
+Filtered img w h p t n low high =
+    let q = raised p t n in
+    ListFiltered img w h p t n low high (outcomeOf img w h p low) (outcomeOf img w h q high) (listLeft img w h p low) (listLeft img w h q high)
 
 -- a list with room for all of l
 whole : (p : RadonDetectorParams) (f : ℕ → ℕ → Float) (l : List Place) (old : List Float) → length l ≤ length old / stride
@@ -275,12 +282,16 @@ module _ (img : List ℕ) (w h : ℕ) (p : RadonDetectorParams) (t : Float) (n :
 
 -- ---- "A shorter list holds the opening corners of a longer one, with the same total."
 
-pub record Opens (img : List ℕ) (w h : ℕ) (p : RadonDetectorParams) (short long : Buffers) : Type 0 where
-  pub same-total : (outcomeOf img w h p short) .count ≡ (outcomeOf img w h p long) .count
+pub record ListOpens (img : List ℕ) (w h : ℕ) (p : RadonDetectorParams) (short long : Buffers)
+    (shorter longer : Outcome) (shorter-left longer-left : List Float) : Type 0 where
+  pub same-total : shorter .count ≡ longer .count
   pub same-corners : cornersLeft img w h p short ≡ cornersLeft img w h p long
   -- what the shorter list holds is what the longer one begins with
-  pub opening-corners : take (stride * writtenBy img w h p short) (listLeft img w h p short)
-      ≡ take (stride * writtenBy img w h p short) (listLeft img w h p long)
+  pub opening-corners : take (stride * writtenBy img w h p short) shorter-left ≡ take (stride * writtenBy img w h p short) longer-left
+
+abbrev pub Opens : List ℕ → ℕ → ℕ → RadonDetectorParams → Buffers → Buffers → Type 0
+Opens img w h p short long =
+    ListOpens img w h p short long (outcomeOf img w h p short) (outcomeOf img w h p long) (listLeft img w h p short) (listLeft img w h p long)
 
 module _ (img : List ℕ) (w h : ℕ) (p : RadonDetectorParams) (short long : Buffers)
     (accepts-short : Accepted img w h p short) (accepts-long : Accepted img w h p long)
