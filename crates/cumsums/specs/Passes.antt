@@ -28,10 +28,3 @@ pub record Above (d : Way) (img : List ℕ) (w y : ℕ) (out : List ℕ) : Type 
 abbrev pub wayOf : Diagonal → Way
 wayOf Falling = fall
 wayOf Rising = rise
-
--- of the columns a to e - 1 the rows above y are g, and nothing else has changed
-pub record Strip (w : ℕ) (g : ℕ → ℕ → ℕ) (old out : List ℕ) (a e y : ℕ) : Type 0 where
-  pub inside : e ≤ w
-  pub done : (x b : ℕ) → a ≤ x → x < e → b < y → getD out (b * w + x) 0 ≡ g x b
-  pub same : (k : ℕ) → ((x b : ℕ) → a ≤ x → x < e → b < y → k ≡ b * w + x → ⊥) → getD out k 0 ≡ getD old k 0
-  pub long : length out ≡ length old

@@ -8,9 +8,9 @@ ghost use Prim.Native.Nat.{_+_, _-_, _*_, _<_, _≤_, min};
 ghost use lib.ListN.{length, getD};
 ghost use Rattle.grid.specs.Span.{span};
 ghost use Rattle.grid.specs.Ways.{pixel, along, down, fall, rise};
-ghost use Rattle.cumsums.specs.Tables.{tableAt, tableOf};
+ghost use Rattle.cumsums.specs.Tables.{tableOf};
 ghost use Rattle.cumsums.specs.Lent.{tables, tablesOf, tablesFit};
-ghost use Rattle.cumsums.specs.Passes.{Above, Carries, Strip, wayOf};
+ghost use Rattle.cumsums.specs.Passes.{Above, Carries, wayOf};
 
 // Entries a to e - 1, where lines begin.
 fn begin(img: &[u8], a: usize, e: usize, out: &mut [u32])
@@ -55,49 +55,33 @@ fn sat_row(img: &[u8], w: usize, h: usize, out: &mut [u32])
     }
 }
 
-// Row y of the columns a to e - 1, from the row above.
-fn down_row(img: &[u8], w: usize, y: usize, a: usize, e: usize, out: &mut [u32])
-    requires { ⌜
-        (w ≤ 8192) × (y < 8192) × (a ≤ e) × (y * w + w ≤ length (now img)) × (y * w + w ≤ length (now out))
-        × Strip w (tableAt down (pixel (now img) w) w) (now out) (now out) a e y
-        ⌝ }
-    ensures { λ _. ⌜ Strip w (tableAt down (pixel (now (img .entry)) w) w) (now (out .entry)) (now (out .exit)) a e (y + 1) ⌝ }
-{
-    let row = y * w;
-    if y == 0 {
-        begin(img, row + a, row + e, out);
-        return;
-    }
-    carry(img, row + a, row + e, w, out);
-}
-
-fn strip(img: &[u8], w: usize, h: usize, a: usize, e: usize, out: &mut [u32])
-    requires { ⌜ (w ≤ 8192) × (h ≤ 8192) × (a ≤ e) × (e ≤ w) × (w * h ≤ length (now img)) × (w * h ≤ length (now out)) ⌝ }
-    ensures { λ _. ⌜ Strip w (tableAt down (pixel (now (img .entry)) w) w) (now (out .entry)) (now (out .exit)) a e h ⌝ }
-{
-    for y in 0..h {
-        down_row(img, w, y, a, e, out);
-    }
-}
-
-// 1,024 columns at a time, so that the row above is still near when it is read.
-fn sat_col(img: &[u8], w: usize, h: usize, out: &mut [u32])
-    requires { ⌜ (w ≤ 8192) × (h ≤ 8192) × (w * h ≤ length (now img)) × (w * h ≤ length (now out)) ⌝ }
-    ensures { λ _. ⌜ now (out .exit) ≡ tableOf down (pixel (now (img .entry)) w) w h (now (out .entry)) ⌝ }
-{
-    let mut x = 0;
-    while x < w {
-        let e = lesser(x + 1024, w);
-        strip(img, w, h, x, e, out);
-        x = e;
-    }
-}
-
-// How many of a row's diagonals go on from the row above, where below the first row n do.
+// How many of a row's lines go on from the row above, where below the first row n do.
 fn going(y: usize, n: usize) -> usize
     ensures { λ m. ⌜ ((y ≡ 0) → (m ≡ 0)) × ((0 < y) → (m ≡ n)) ⌝ }
 {
     if y == 0 { 0 } else { n }
+}
+
+// Row y of the columns, from the row above: each goes on, and in the first row each begins.
+fn down_row(img: &[u8], w: usize, y: usize, out: &mut [u32])
+    requires { ⌜ Above down (now img) w y (now out) ⌝ }
+    ensures { λ _. ⌜ now (out .exit) ≡ tableOf down (pixel (now (img .entry)) w) w (y + 1) (now (out .entry)) ⌝ }
+{
+    let row = y * w;
+    let end = row + w;
+    let back = going(y, w);
+    let first = end - back;
+    begin(img, row, first, out);
+    carry(img, first, end, back, out);
+}
+
+fn sat_col(img: &[u8], w: usize, h: usize, out: &mut [u32])
+    requires { ⌜ (w ≤ 8192) × (h ≤ 8192) × (w * h ≤ length (now img)) × (w * h ≤ length (now out)) ⌝ }
+    ensures { λ _. ⌜ now (out .exit) ≡ tableOf down (pixel (now (img .entry)) w) w h (now (out .entry)) ⌝ }
+{
+    for y in 0..h {
+        down_row(img, w, y, out);
+    }
 }
 
 // Row y of the diagonals that fall to the right, from (x - 1, y - 1): one begins in the first column, and in the first row each.

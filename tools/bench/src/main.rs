@@ -9,6 +9,7 @@ mod passes;
 mod scalars;
 mod sides;
 mod table;
+mod versions;
 
 use std::process::ExitCode;
 
@@ -19,12 +20,14 @@ use pass::Pass;
 use sides::{sides, Side};
 use steyrbunk::Image;
 use table::{Row, Times};
+use versions::Library;
 
 const HELP: &str = "\
 bench times the proved finder against the published Rust, one thread each, and prints Markdown.
 
   bench [--repeats N] [--picture NAME] [--largest WIDTH]
   bench [--repeats N] [--picture NAME] [--largest WIDTH] --arch
+  bench [--repeats N] [--picture NAME] [--largest WIDTH] --before LIBRARY --after LIBRARY
   bench [--repeats N] --scalars
   bench --distances
 
@@ -33,6 +36,7 @@ bench times the proved finder against the published Rust, one thread each, and p
                     (small cells), noise or flat
   --largest WIDTH   leaves out frames that are wider
   --arch            times arches of 2, 4 and 8 cameras beside their single calls instead
+  --before, --after times two builds of ours instead, as tools/version makes them
   --scalars         times root and logarithm beside the platform's instead
   --distances       measures instead how far these lie apart, over every f32 of their ranges
 
@@ -42,13 +46,31 @@ On Linux the time is the processor time of the thread. Nothing is asserted about
 find the same number of corners, and that every pass leaves the same working image and map, is.
 ";
 
-const SIZES: [(usize, usize); 4] = [(640, 480), (1_280, 960), (2_048, 1_024), (4_096, 2_048)];
+/// Each at factor 1, and at 2 where a working image may have as many pixels; the fourth is then as wide as any.
+const SIZES: [(usize, usize); 5] = [
+    (640, 480),
+    (1_280, 960),
+    (2_048, 1_024),
+    (4_096, 512),
+    (4_096, 2_048),
+];
+
+/// Width, height and factor of all that are no wider.
+fn sizes(largest: usize) -> Vec<(usize, usize, u32)> {
+    let wanted = SIZES.into_iter().filter(|(width, _)| *width <= largest);
+    let each = wanted.flat_map(|(width, height)| [1, 2].map(|factor| (width, height, factor)));
+    let room = |(width, height, factor): &(usize, usize, u32)| {
+        width * height * (factor * factor) as usize <= limits::WORKING
+    };
+    each.filter(room).collect()
+}
 
 /// What the call asks for.
-#[derive(Clone, Copy, PartialEq)]
 enum Ask {
     Table,
     Arch,
+    /// One build of ours before a change, and one after it.
+    Versions([Library; 2]),
     Scalars,
     Distances,
 }
@@ -67,6 +89,7 @@ fn options(mut words: Words) -> Result<Options, Usage> {
         picture: ("panel".to_string(), Picture::Panel),
         largest: usize::MAX,
     };
+    let [mut before, mut after]: [Option<String>; 2] = [None, None];
     while let Some(word) = words.word()? {
         let Word::Flag(flag) = word else {
             return Usage::wrong("bench takes no paths");
@@ -74,6 +97,8 @@ fn options(mut words: Words) -> Result<Options, Usage> {
         match flag.as_str() {
             "--repeats" => options.repeats = words.value::<usize>(&flag, "a number")?.max(1),
             "--arch" => options.ask = Ask::Arch,
+            "--before" => before = Some(words.value(&flag, "a library")?),
+            "--after" => after = Some(words.value(&flag, "a library")?),
             "--scalars" => options.ask = Ask::Scalars,
             "--distances" => options.ask = Ask::Distances,
             "--largest" => options.largest = words.value(&flag, "a width")?,
@@ -87,7 +112,16 @@ fn options(mut words: Words) -> Result<Options, Usage> {
             _ => return Usage::wrong(format!("{flag} is not known")),
         }
     }
+    match (before, after) {
+        (Some(before), Some(after)) => options.ask = Ask::Versions([open(&before)?, open(&after)?]),
+        (None, None) => {}
+        _ => return Usage::wrong("--before and --after go together"),
+    }
     Ok(options)
+}
+
+fn open(path: &str) -> Result<Library, Usage> {
+    Library::open(path).map_err(Usage::Wrong)
 }
 
 /// Two blocks to copy between: a copy of n bytes reads n and writes n.
@@ -168,29 +202,20 @@ fn left(side: &dyn Side) -> (&[u8], Vec<u32>) {
 fn run(options: &Options) {
     let mut copy = Copy::new(Pass::Whole.moved(limits::WORKING, limits::WORKING) / 2);
     table::open(options.repeats, &options.picture.0);
-    for (width, height) in SIZES
-        .into_iter()
-        .filter(|(width, _)| *width <= options.largest)
-    {
+    for (width, height, factor) in sizes(options.largest) {
         let pixels = options.picture.1.pixels(width, height);
-        let image = Image {
-            pixels: &pixels,
-            width,
-            height,
+        let mut frame = Frame {
+            image: Image {
+                pixels: &pixels,
+                width,
+                height,
+            },
+            factor,
+            repeats: options.repeats,
+            copy: &mut copy,
         };
-        for factor in [1, 2] {
-            let mut frame = Frame {
-                image,
-                factor,
-                repeats: options.repeats,
-                copy: &mut copy,
-            };
-            if frame.working() > limits::WORKING {
-                continue;
-            }
-            for pass in Pass::all().filter(|pass| cfg!(passes) || !pass.is_single()) {
-                frame.row(pass).print();
-            }
+        for pass in Pass::all().filter(|pass| cfg!(passes) || !pass.is_single()) {
+            frame.row(pass).print();
         }
     }
     table::close(cfg!(passes));
@@ -199,10 +224,14 @@ fn run(options: &Options) {
 fn main() -> ExitCode {
     console::run("bench", HELP, |words| {
         let options = options(words)?;
-        match options.ask {
+        let (repeats, picture, largest) = (options.repeats, &options.picture, options.largest);
+        match &options.ask {
             Ask::Table => run(&options),
-            Ask::Arch => arch::times(options.repeats, &options.picture, options.largest),
-            Ask::Scalars => scalars::times(options.repeats),
+            Ask::Arch => arch::times(repeats, picture, largest),
+            Ask::Versions(libraries) => {
+                versions::times(libraries, repeats, picture, &sizes(largest))
+            }
+            Ask::Scalars => scalars::times(repeats),
             Ask::Distances => scalars::distances(),
         }
         Ok(ExitCode::SUCCESS)
