@@ -22,37 +22,36 @@ module _ (w y : ℕ) {back : ℕ} (g : (y ≡ 0 → back ≡ 0) × (0 < y → ba
   pub back-most : back ≤ w
   back-most = elim back-cases [ inl e ↦ omega arith | inr e ↦ omega arith ]
 
--- ys is what comes back from `begin`
-module _ (img : List ℕ) (w y : ℕ) (xs : List ℕ) {back : ℕ} (g : (y ≡ 0 → back ≡ 0) × (0 < y → back ≡ w)) (a : Above down img w y xs)
-    {ys : List ℕ} (b : ys ≡ span (y * w) (y * w + w - back - y * w) (λ i. getD img i 0) xs) where
+-- from `first` on they go on; ys is what comes back from `begin`
+module _ (img : List ℕ) (w y : ℕ) (xs : List ℕ) {back first : ℕ} (g : (y ≡ 0 → back ≡ 0) × (0 < y → back ≡ w))
+    (f : first ≡ y * w + (w - back)) (a : Above down img w y xs)
+    {ys : List ℕ} (b : ys ≡ span (y * w) (first - y * w) (λ i. getD img i 0) xs) where
   down-begun : Filling down img w y xs ys (w - back)
   down-begun =
-      row-begun down img w y xs {lo = 0} {hi = w - back} (row-start down img w y xs a) (omega arith) (omega arith) (omega arith)
-      (omega (arith, back-most w y g)) b (λ x l m. elim (back-cases w y g) [ inl e ↦ e .0 | inr e ↦ absurd (omega arith) ])
+      row-begun down img w y xs {lo = 0} {hi = w - back} (row-start down img w y xs a) (omega arith) (omega arith) (omega arith) f b
+      (λ x l m. elim (back-cases w y g) [ inl e ↦ e .0 | inr e ↦ absurd (omega arith) ])
 
-  pub down-carries : ((k : ℕ) → getD img k 0 < 256) → Carries img ys (y * w + w - back) (y * w + w) back
+  pub down-carries : ((k : ℕ) → getD img k 0 < 256) → Carries img ys first (y * w + w) back
   down-carries small = record {
     run = omega arith;
     least = λ k l m. elim (back-cases w y g) [ inl e ↦ omega arith | inr e ↦ omega (arith, row-above w (e .0)) ];
-    apart = omega arith;
+    apart = omega (arith, back-most w y g);
     image = a .image;
     room = omega (arith, a .room, down-begun .steps .long);
     small = λ k l m. row-fits down img w y xs down-begun a small k (omega (arith, back-most w y g));
   }
 
   -- and zs what comes back from `carry`
-  module _ {zs : List ℕ}
-      (z : zs ≡ span (y * w + w - back) (y * w + w - (y * w + w - back)) (λ i. getD ys (i - back) 0 + getD img i 0) ys) where
-    down-carried : Filling down img w y xs zs w
-    down-carried = elim (back-cases w y g) [
-      | inl e ↦
-          row-span w (y + 1) _ _ xs {lo = w - back} {hi = w} down-begun (omega arith) (omega arith) (omega arith) refl z
-          (λ x l m. absurd (omega arith))
-      | inr e ↦
-          row-carried down img w y xs {lo = w - back} {hi = w} down-begun (a .room) (omega arith) (omega arith) (omega arith) refl
-          (z ∙ ap (λ (k : ℕ). span (y * w + w - back) (y * w + w - (y * w + w - back)) (λ i. getD ys (i - k) 0 + getD img i 0) ys) (e .1))
-          (λ x l m. (e .0, omega arith))
-    ]
+  pub down-row : {zs : List ℕ} → zs ≡ span first (y * w + w - first) (λ i. getD ys (i - back) 0 + getD img i 0) ys
+      → zs ≡ tableOf down (pixel img w) w (y + 1) xs
+  down-row {zs} z = row-whole down img w y xs (elim (back-cases w y g) [ inl e ↦ none e | inr e ↦ all e ])
+    where
+      none : (y ≡ 0) × (back ≡ 0) → Filling down img w y xs zs w
+      none e =
+          row-span w (y + 1) _ _ xs {lo = w - back} {hi = w} down-begun (omega arith) (omega arith) f refl z (λ x l m. absurd (omega arith))
 
-    pub down-row : zs ≡ tableOf down (pixel img w) w (y + 1) xs
-    down-row = row-whole down img w y xs down-carried
+      all : (0 < y) × (back ≡ w) → Filling down img w y xs zs w
+      all e =
+          let c = z ∙ ap (λ (k : ℕ). span first (y * w + w - first) (λ i. getD ys (i - k) 0 + getD img i 0) ys) (e .1) in
+          row-carried down img w y xs {lo = w - back} {hi = w} down-begun (a .room) (omega arith) (omega arith) f refl c
+          (λ x l m. (e .0, omega arith))

@@ -1,4 +1,5 @@
 -- `down_row`: what comes back from `begin` and `carry` is a row of the table. Assumes nothing.
+use Prim.Native.Nat.{_≤_}
 use native.Mathlib.Omega.{arith}
 use borrow.Author.Needs.{needs}
 use Rattle.cumsums.proofs.Columns.{back-most, down-carries, down-row}
@@ -13,6 +14,10 @@ begun c = c .before .before .before
 abbrev start : tie.After-going → tie.Start
 start c = c .before .before .before
 
+-- how far back the row above stands
+most : (c : tie.After-going) → c .going .result ≤ start c .args .w
+most c = back-most (start c .args .w) (start c .args .y) (c .going .ensures)
+
 mul-row : tie.Need-mul-row
 mul-row c = omega arith
 
@@ -23,12 +28,11 @@ going-requires : tie.Need-going-requires
 going-requires c κs = search needs
 
 sub-first : tie.Need-sub-first
-sub-first c = omega (arith, back-most (start c .args .w) (start c .args .y) (c .going .ensures))
+sub-first c = omega (arith, most c)
 
 begin-requires : tie.Need-begin-requires
 begin-requires c κs =
-    let g = c .before in
-    let n = back-most (start g .args .w) (start g .args .y) (g .going .ensures) in
+    let m = most (c .before) in
     (omega arith, omega arith, omega arith)
 
 carry-requires : tie.Need-carry-requires
@@ -36,8 +40,8 @@ carry-requires c κs =
     let b = begun c in
     let g = b .before .before in
     let s = start g in
-    down-carries (s .args .img .now) (s .args .w) (s .args .y) (s .args .out .now) (g .going .ensures) (s .pre) (b .begin .ensures)
-    (λ k. omega (arith, g .before .before .shared-slice-known .given k))
+    down-carries (s .args .img .now) (s .args .w) (s .args .y) (s .args .out .now) (g .going .ensures) (omega (arith, most g)) (s .pre)
+    (b .begin .ensures) (λ k. omega (arith, g .before .before .shared-slice-known .given k))
 
 same-length : tie.Need-same-length
 same-length c = search needs
@@ -48,8 +52,8 @@ returns c =
     let b = begun (r .before) in
     let g = b .before .before in
     let s = start g in
-    down-row (s .args .img .now) (s .args .w) (s .args .y) (s .args .out .now) (g .going .ensures) (s .pre) (b .begin .ensures)
-    (r .carry .ensures)
+    down-row (s .args .img .now) (s .args .w) (s .args .y) (s .args .out .now) (g .going .ensures) (omega (arith, most g)) (s .pre)
+    (b .begin .ensures) (r .carry .ensures)
 
 pub down-row-spec : {M : Type 1} → statement M
 down-row-spec =
