@@ -3,6 +3,7 @@
 mod arch;
 mod clock;
 mod frames;
+mod library;
 mod pass;
 #[cfg(passes)]
 mod passes;
@@ -16,11 +17,11 @@ use std::process::ExitCode;
 use clock::timed;
 use console::{Usage, Word, Words};
 use frames::Picture;
+use library::Library;
 use pass::Pass;
 use sides::{sides, Side};
 use steyrbunk::Image;
 use table::{Row, Times};
-use versions::Library;
 
 const HELP: &str = "\
 bench times the proved finder against the published Rust, one thread each, and prints Markdown.
