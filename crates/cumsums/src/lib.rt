@@ -55,14 +55,7 @@ fn sat_row(img: &[u8], w: usize, h: usize, out: &mut [u32])
     }
 }
 
-// How many of a row's lines go on from the row above, where below the first row n do.
-fn going(y: usize, n: usize) -> usize
-    ensures { λ m. ⌜ ((y ≡ 0) → (m ≡ 0)) × ((0 < y) → (m ≡ n)) ⌝ }
-{
-    if y == 0 { 0 } else { n }
-}
-
-// Row y of the columns, from the row above: each goes on, and in the first row each begins.
+// Row y of the columns: each goes on from the entry w back, in the row above; in the first row none does, and each begins.
 fn down_row(img: &[u8], w: usize, y: usize, out: &mut [u32])
     requires { ⌜ Above down (now img) w y (now out) ⌝ }
     ensures { λ _. ⌜ now (out .exit) ≡ tableOf down (pixel (now (img .entry)) w) w (y + 1) (now (out .entry)) ⌝ }
@@ -82,6 +75,13 @@ fn sat_col(img: &[u8], w: usize, h: usize, out: &mut [u32])
     for y in 0..h {
         down_row(img, w, y, out);
     }
+}
+
+// How many of a row's lines go on from the row above, where below the first row n do.
+fn going(y: usize, n: usize) -> usize
+    ensures { λ m. ⌜ ((y ≡ 0) → (m ≡ 0)) × ((0 < y) → (m ≡ n)) ⌝ }
+{
+    if y == 0 { 0 } else { n }
 }
 
 // Row y of the diagonals that fall to the right, from (x - 1, y - 1): one begins in the first column, and in the first row each.
