@@ -15,7 +15,10 @@ use Rattle.cumsums.specs.Passes.{Above, Carries}
 use Rattle.cumsums.proofs.Running.{Filling, row-start, row-begun, row-carried, row-whole, row-fits}
 
 -- how far back the row above stands, which is also how many columns go on: as the code finds it
-module _ (w y : ℕ) {back : ℕ} (g : (y ≡ 0 → back ≡ 0) × (0 < y → back ≡ w)) where
+abbrev Back : ℕ → ℕ → ℕ → Type 0
+Back w y back = (y ≡ 0 → back ≡ 0) × (0 < y → back ≡ w)
+
+module _ (w y : ℕ) {back : ℕ} (g : Back w y back) where
   back-cases : ((y ≡ 0) × (back ≡ 0)) ⊎ ((0 < y) × (back ≡ w))
   back-cases = elim (eq-zero-or-pos y) [ inl e ↦ inl (e, g .0 e) | inr l ↦ inr (l, g .1 l) ]
 
@@ -23,8 +26,8 @@ module _ (w y : ℕ) {back : ℕ} (g : (y ≡ 0 → back ≡ 0) × (0 < y → ba
   back-most = elim back-cases [ inl e ↦ omega arith | inr e ↦ omega arith ]
 
 -- from `first` on they go on; ys is what comes back from `begin`
-module _ (img : List ℕ) (w y : ℕ) (xs : List ℕ) {back first : ℕ} (g : (y ≡ 0 → back ≡ 0) × (0 < y → back ≡ w))
-    (f : first ≡ y * w + (w - back)) (a : Above down img w y xs)
+module _ (img : List ℕ) (w y : ℕ) (xs : List ℕ) {back first : ℕ} (g : Back w y back) (f : first ≡ y * w + (w - back))
+    (a : Above down img w y xs)
     {ys : List ℕ} (b : ys ≡ span (y * w) (first - y * w) (λ i. getD img i 0) xs) where
   down-begun : Filling down img w y xs ys (w - back)
   down-begun =

@@ -116,6 +116,10 @@ impl<'a> Bench<'a> {
     /// What a call leaves where other things stood: a table that is not filled, or filled from what was there, is seen.
     fn left(&mut self, library: &Library, part: Part) -> Left {
         let b = self.finder.lend();
+        // The single passes go by the working image; map and whole make it.
+        if matches!(part, Part::Map | Part::Whole) {
+            b.working.fill(0xA5);
+        }
         for table in [
             b.row_cumsum,
             b.col_cumsum,
