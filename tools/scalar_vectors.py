@@ -21,7 +21,7 @@ from fractions import Fraction
 SEED = 3
 OUTSIDE = 0xFFFFFFFF
 INFINITE = 0x7F800000
-LAST_TERM = 9
+LAST_TERM = 17
 LOW, HIGH = -6, 24
 CLOSE = Fraction(1, 2**19)
 

@@ -1,12 +1,17 @@
 -- Worked values of the two definitions, computed. Assumes nothing.
-use mathlib.Core.Path.{_≡_, refl}
-use mathlib.Core.Bool.{true, false}
+use mathlib.Core.Path.{_≡_, refl, sym, ap, _∙_}
+use mathlib.Core.Bool.{true, false, cond, _&&_}
+use Prim.Native.Nat.{ℕ, _+_, _*_, _/_}
+use native.Mathlib.Nat.{not-le-of-lt}
+use lib.Dec.{lit<}
 use lib.IntN.{pos, negsuc}
-use lib.Ieee.{fin, le, toBits, ofBits}
+use lib.Ieee.{Float, fin, binary32, le, toBits, ofBits}
 use Rattle.scalar.specs.Root.{rootBits, rootOf}
-use Rattle.scalar.specs.Log.{logOf, cutThird}
+use Rattle.scalar.specs.Log.{logOf, Near, terms, high, unit, cutSum, cutThird, unitsOf, difference, doublings, lessOne, moreOne}
+use Rattle.scalar.specs.Log.{plus, minus, whole, lowest, highest}
 use Rattle.scalar.specs.declared.Root.the-variants as R
 use Rattle.scalar.specs.declared.Log.the-variants as L
+use Rattle.scalar.proofs.Series.{ratio-le, ninth-is-cut}
 
 -- ---- the square root
 
@@ -37,29 +42,67 @@ root-of-minus-zero = refl
 
 -- ---- the logarithm
 
-log-of-one : logOf 5 24 (fin false 1 (pos 0)) ≡ L.Value (fin false 0 (pos 0))
+log-of-one : logOf terms high (fin false 1 (pos 0)) ≡ L.Value (fin false 0 (pos 0))
 unfolding logOf le toBits
 log-of-one = refl
 
--- 93032487 / 2 ^ 27 is 0.693146.., and 93032488 / 2 ^ 27 the nearest f32; the logarithm of a half is its negative
-log-of-two : logOf 5 24 (fin false 1 (pos 1)) ≡ L.Value (fin false 11629061 (negsuc 23))
+-- 93032639 / 2 ^ 27 is 0.693147.., and 93032640 / 2 ^ 27 the nearest f32, which is that of ln 2 itself; the logarithm of a half is its negative
+log-of-two : logOf terms high (fin false 1 (pos 1)) ≡ L.Value (fin false 1453635 (negsuc 20))
 unfolding logOf le toBits
 log-of-two = refl
 
-log-of-half : logOf 5 24 (fin false 1 (negsuc 0)) ≡ L.Value (fin true 11629061 (negsuc 23))
+log-of-half : logOf terms high (fin false 1 (negsuc 0)) ≡ L.Value (fin true 1453635 (negsuc 20))
 unfolding logOf le toBits
 log-of-half = refl
 
 -- half of the least number inside, and twice the greatest
-log-of-small : logOf 5 24 (fin false 1 (negsuc 6)) ≡ L.Outside
+log-of-small : logOf terms high (fin false 1 (negsuc 6)) ≡ L.Outside
 unfolding logOf le toBits
 log-of-small = refl
 
-log-of-large : logOf 5 24 (fin false 1 (pos 25)) ≡ L.Outside
+log-of-large : logOf terms high (fin false 1 (pos 25)) ≡ L.Outside
 unfolding logOf le toBits
 log-of-large = refl
 
--- nine terms, up to z ^ 17: one unit of 2 ^ -27 from the whole of ln 2
-third-of-nine : cutThird 9 ≡ 93032639
+-- ---- beside document 01's own series, which stopped at n = 9: five terms
+
+-- 152 units of 2 ^ -27 less for each doubling: 1.13 millionths
+third-of-five : cutThird 5 + 152 ≡ cutThird terms
 unfolding cutThird
-third-of-nine = refl
+third-of-five = refl
+
+-- at 4 two of these are already over 2 ^ -19: the bound alone tells that logarithm, or its constant beside longer sums, from the new one
+log-of-four : logOf 5 high (fin false 1 (pos 2)) ≡ L.Value (fin false 11629061 (negsuc 22))
+unfolding logOf le toBits
+log-of-four = refl
+
+four-is-far : Near terms (fin false 1 (pos 2)) (fin false 11629061 (negsuc 22)) → ⊥
+unfolding plus minus whole toBits
+four-is-far = not-le-of-lt (lit< tt)
+
+-- ---- beside a sum to n = 15: the ninth term is less than a unit, so that eight give the same f32 for every number
+
+third-of-eight : cutThird 8 ≡ cutThird 9
+unfolding cutThird
+third-of-eight = refl
+
+units-of-eight : (b : ℕ) → unitsOf 8 b ≡ unitsOf 9 b
+unfolding unitsOf
+units-of-eight b =
+    ap (λ (t : ℕ). doublings b * t + cutSum (lessOne b * unit / moreOne b) 8) third-of-eight
+    ∙ ap (λ (s : ℕ). doublings b * cutThird 9 + s) (sym (ninth-is-cut (lessOne b * unit / moreOne b) (ratio-le b)))
+
+pub eight-give-the-same : (H : ℕ) (x : Float) → logOf 8 H x ≡ logOf 9 H x
+unfolding logOf
+eight-give-the-same H x =
+    ap (λ (v : Float). cond (le lowest x && le x (highest H)) (L.Value v) L.Outside)
+    (ap (λ (c : ℕ). difference (unitsOf 8 (toBits binary32 x)) (6 * c)) third-of-eight
+    ∙ ap (λ (a : ℕ). difference a (6 * cutThird 9)) (units-of-eight (toBits binary32 x)))
+
+-- seven do not: at z of the number before 1 the term of n = 15 is a unit
+before-one : lessOne 0x3f7f_ffff * unit / moreOne 0x3f7f_ffff ≡ 89478478
+before-one = refl
+
+seven-give-less : cutSum 89478478 7 + 1 ≡ cutSum 89478478 9
+unfolding cutSum
+seven-give-less = refl

@@ -26,7 +26,7 @@ sum-step z p s j e f =
 
 -- `cutThird terms`, as the source has it: half of S(1/3) in units of 2 ^ -28.
 abbrev pub thirdUnits : ℕ
-thirdUnits = 93032487
+thirdUnits = 93032639
 
 pub third-is : cutThird terms ≡ thirdUnits
 unfolding cutThird
@@ -80,6 +80,28 @@ sum-small z h (suc j) =
     let i = sum-small z h j in
     let s = step-le (cutPower z j) (z * z / unit) (i .0) (square-le z h) in
     (le-trans s (lit≤ tt), omega (arith, s, i .1, div-le-self (cutPower z j) (2 * j + 1)))
+
+-- ---- how far the terms reach: the power of n = 17 is at most one unit, so that its term is cut to nothing
+
+divided : (a b : ℕ) → a ≤ b → a / unit ≤ b / unit
+divided a b h = omega arith
+
+power-mono : (z y : ℕ) → z ≤ y → (j : ℕ) → cutPower z j ≤ cutPower y j
+unfolding cutPower
+power-mono z y h zero = h
+power-mono z y h (suc j) =
+    divided (cutPower z j * (z * z / unit)) (cutPower y j * (y * y / unit))
+    (mul-le-mul (power-mono z y h j) (divided (z * z) (y * y) (mul-le-mul h h)))
+
+ninth-power : (z : ℕ) → z ≤ aThird → cutPower z 8 ≤ 1
+ninth-power z h = le-trans (power-mono z aThird h 8) (unfold cutPower in lit≤ tt)
+
+pub ninth-is-cut : (z : ℕ) → z ≤ aThird → cutSum z 9 ≡ cutSum z 8
+unfolding cutSum
+ninth-is-cut z h = none (cutSum z 8) (cutPower z 8) (ninth-power z h)
+  where
+    none : (s p : ℕ) → p ≤ 1 → s + p / 17 ≡ s
+    none s p h = omega arith
 
 -- ---- the square: w stands for z * z in units, and z for p / q
 

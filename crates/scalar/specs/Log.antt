@@ -10,9 +10,9 @@ use Rattle.scalar.specs.declared.Log.the-variants.{Value, Outside}
 
 -- ---- what a longer series or a wider range changes here (with TERMS, THIRD and MOST of src/, and `thirdUnits` of proofs/Series)
 
--- Document 01, "over n = 1, 3, 5, 7, 9": five terms.
+-- Document 02, ticket 4, "Carry the sum to n = 17, for both uses of S": n = 1, 3, .., 17, nine terms.
 abbrev pub terms : ℕ
-terms = 5
+terms = 9
 
 -- Document 01, "from 2^-6 to 2^24": the upper end's exponent.
 abbrev pub high : ℕ

@@ -4,11 +4,11 @@ ghost use Prim.Native.Nat.{_≤_, _<_};
 ghost use Rattle.scalar.specs.Log.{cutSum, unitsOf, floatOf, terms, high, leastBits, mostBits};
 ghost use Rattle.scalar.specs.Steps.{aThird, roomy};
 
-// How many terms the series has: 5 is up to z^9.
-const TERMS: u64 = 5;
+// How many terms the series has: 9 is up to z^17.
+const TERMS: u64 = 9;
 
 // Half of S(1/3), in units.
-pub const THIRD: u64 = 93032487;
+pub const THIRD: u64 = 93032639;
 
 // 2^28: the units of 1.
 const ONE: u64 = 268435456;
