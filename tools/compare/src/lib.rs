@@ -8,7 +8,7 @@ mod source;
 mod summary;
 
 pub use difference::{Difference, What};
-pub use gaussian::{Class, Distances, BOUND, CURVATURES};
+pub use gaussian::{Class, Distances, Lean, BOUND, CURVATURES, DOUBLINGS, FLAT};
 pub use pair::{Held, Pair};
 pub use program::Program;
 pub use source::{Job, Makes, Opened, Source};

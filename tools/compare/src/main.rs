@@ -31,7 +31,7 @@ lengths past their end or have bytes behind them.
                    printed, refusals 9 and 10 of its own room among them
   --damaged        every second made file is damaged
   --max-side M     made frames with sides up to M; without it they have the program's size
-  --bound B        the bound for Gaussian places (default 5e-6)
+  --bound B        the bound for Gaussian places (default 4e-6)
   --lists          prints both lists of each frame
   --each           prints a line for each made frame; for files this is done anyway
   --keep FOLDER    writes each frame that differs, or its arch, into the folder

@@ -3,8 +3,16 @@
 use std::collections::BTreeMap;
 use std::fmt;
 
-use crate::gaussian::{Distances, CURVATURES};
+use crate::gaussian::{Distances, CURVATURES, DOUBLINGS, FLAT};
 use crate::pair::Held;
+
+/// What a class between two ends is called; the last has none.
+fn range(at: usize, ends: &[f64], shown: impl Fn(&f64) -> String) -> String {
+    match ends.get(at) {
+        Some(end) => format!("below {}", shown(end)),
+        None => format!("{} and up", shown(&ends[at - 1])),
+    }
+}
 
 #[derive(Default)]
 pub struct Summary {
@@ -36,20 +44,22 @@ impl Summary {
     }
 
     fn distances(&self, out: &mut fmt::Formatter<'_>) -> fmt::Result {
-        let Distances {
-            equal,
-            classes,
-            product,
-        } = &self.distances;
-        let all = self.distances.all();
+        let (equal, unequal) = (self.distances.equal, self.distances.all().coordinates);
         writeln!(
             out,
-            "Gaussian coordinates: {equal} equal to the bit, {} not",
-            all.coordinates
+            "Gaussian coordinates: {equal} equal to the bit, {unequal} not"
         )?;
-        if all.coordinates == 0 {
+        if unequal == 0 {
             return Ok(());
         }
+        self.by_curvature(out)?;
+        self.by_doublings(out)
+    }
+
+    fn by_curvature(&self, out: &mut fmt::Formatter<'_>) -> fmt::Result {
+        let Distances {
+            classes, product, ..
+        } = &self.distances;
         writeln!(
             out,
             "Curvature says how sharply a corner's peak falls off along an axis: the flatter it is, the less a place
@@ -62,10 +72,7 @@ change that a printed number can make."
             .enumerate()
             .filter(|(_, class)| class.coordinates > 0)
         {
-            let range = match CURVATURES.get(at) {
-                Some(end) => format!("below {end:.0e}"),
-                None => format!("{:.0e} and up", CURVATURES[at - 1]),
-            };
+            let range = range(at, &CURVATURES, |end| format!("{end:.0e}"));
             let (pixels, steps) = (class.pixels, class.steps);
             writeln!(
                 out,
@@ -74,6 +81,35 @@ change that a printed number can make."
             )?;
         }
         writeln!(out, "  greatest distance times curvature: {product:.2e}")
+    }
+
+    fn by_doublings(&self, out: &mut fmt::Formatter<'_>) -> fmt::Result {
+        writeln!(
+            out,
+            "Of peaks with a curvature of {FLAT} and up, by how often a peak's lower neighbour is to be doubled to be as
+great, in working pixels: how far ours lie from the Rust's on average, and toward the greater neighbour."
+        )?;
+        writeln!(
+            out,
+            "  doublings     coordinates  mean distance  mean lean  greatest"
+        )?;
+        let named = |(at, lean)| (range(at, &DOUBLINGS, f64::to_string), lean);
+        let classes = self.distances.leans.iter().copied().enumerate().map(named);
+        let all = ("all".to_string(), self.distances.lean());
+        for (name, lean) in classes
+            .chain([all])
+            .filter(|(_, lean)| lean.coordinates > 0)
+        {
+            writeln!(
+                out,
+                "  {name:12} {:12}  {:13.2e}  {:+9.2e}  {:8.2e}",
+                lean.coordinates,
+                lean.mean(lean.apart),
+                lean.mean(lean.toward),
+                lean.greatest
+            )?;
+        }
+        Ok(())
     }
 }
 
