@@ -16,12 +16,18 @@ pub type Response = function!(*const u8, usize, usize, usize, u32, u32, u32;
 pub type Find = function!(*const u8, usize, usize, usize, u32, u32, u32, u32, f32, u32, u32;
     u8, u32, u32, u32, u32, f32, f32, f32; *mut usize, *mut usize, *mut usize; u32);
 
+pub type Peaks = function!(*const f32, usize, *const u8, usize, usize, usize, u32, u32, u32, u32, f32, u32, u32;
+    f32; *mut usize; u32);
+pub type Log = function!(f32; ; ; f32);
+
 /// What `tools/version` builds, or the part of it that is timed.
 pub struct Library {
     pub columns: Columns,
     pub rays: Rays,
     pub response: Response,
+    pub peaks: Peaks,
     pub find: Find,
+    log: Log,
 }
 
 extern "C" {
@@ -66,8 +72,15 @@ impl Library {
                 columns: transmute::<*mut c_void, Columns>(place(c"pass_columns")?),
                 rays: transmute::<*mut c_void, Rays>(place(c"pass_rays")?),
                 response: transmute::<*mut c_void, Response>(place(c"steyrbunk_response")?),
+                peaks: transmute::<*mut c_void, Peaks>(place(c"steyrbunk_peaks")?),
                 find: transmute::<*mut c_void, Find>(place(c"steyrbunk_find")?),
+                log: transmute::<*mut c_void, Log>(place(c"steyrbunk_ln")?),
             })
         }
+    }
+
+    pub fn ln(&self, x: f32) -> f32 {
+        // SAFETY: a number in, a number out.
+        unsafe { (self.log)(x) }
     }
 }

@@ -20,7 +20,7 @@ use frames::Picture;
 use library::Library;
 use pass::Pass;
 use sides::{sides, Side};
-use steyrbunk::Image;
+use steyrbunk::{Image, PeakFit};
 use table::{Row, Times};
 
 const HELP: &str = "\
@@ -28,9 +28,9 @@ bench times the proved finder against the published Rust, one thread each, and p
 
   bench [--repeats N] [--picture NAME] [--largest WIDTH]
   bench [--repeats N] [--picture NAME] [--largest WIDTH] --arch
-  bench [--repeats N] [--picture NAME] [--largest WIDTH] --before LIBRARY --after LIBRARY
-  bench [--repeats N] --scalars
-  bench --distances
+  bench [--repeats N] [--picture NAME] [--largest WIDTH] [--parabolic] --before LIBRARY --after LIBRARY
+  bench [--repeats N] --scalars [--before LIBRARY --after LIBRARY]
+  bench --distances [--before LIBRARY --after LIBRARY]
 
   --repeats N       timed calls of each kind, of which the median counts (default 9)
   --picture NAME    what the frames show: panel (default; a turned board, twenty cells across), board
@@ -38,8 +38,10 @@ bench times the proved finder against the published Rust, one thread each, and p
   --largest WIDTH   leaves out frames that are wider
   --arch            times arches of 2, 4 and 8 cameras beside their single calls instead
   --before, --after times two builds of ours instead, as tools/version makes them
+  --parabolic       with these, peaks are fitted by a parabola and not by logarithms
   --scalars         times root and logarithm beside the platform's instead
   --distances       measures instead how far these lie apart, over every f32 of their ranges
+With --before and --after these two take the logarithms of both builds.
 
 The sides take turns, call by call, so that what disturbs the machine disturbs them alike. Before
 the timed calls each side is called once; buffers are kept from call to call and never cleared.
@@ -70,14 +72,15 @@ fn sizes(largest: usize) -> Vec<(usize, usize, u32)> {
 enum Ask {
     Table,
     Arch,
-    /// One build of ours before a change, and one after it.
-    Versions([Library; 2]),
     Scalars,
     Distances,
 }
 
 struct Options {
     ask: Ask,
+    /// One build of ours before a change, and one after it.
+    versions: Option<[Library; 2]>,
+    peak_fit: PeakFit,
     repeats: usize,
     picture: (String, Picture),
     largest: usize,
@@ -86,6 +89,8 @@ struct Options {
 fn options(mut words: Words) -> Result<Options, Usage> {
     let mut options = Options {
         ask: Ask::Table,
+        versions: None,
+        peak_fit: PeakFit::Gaussian,
         repeats: 9,
         picture: ("panel".to_string(), Picture::Panel),
         largest: usize::MAX,
@@ -100,6 +105,7 @@ fn options(mut words: Words) -> Result<Options, Usage> {
             "--arch" => options.ask = Ask::Arch,
             "--before" => before = Some(words.value(&flag, "a library")?),
             "--after" => after = Some(words.value(&flag, "a library")?),
+            "--parabolic" => options.peak_fit = PeakFit::Parabolic,
             "--scalars" => options.ask = Ask::Scalars,
             "--distances" => options.ask = Ask::Distances,
             "--largest" => options.largest = words.value(&flag, "a width")?,
@@ -114,9 +120,16 @@ fn options(mut words: Words) -> Result<Options, Usage> {
         }
     }
     match (before, after) {
-        (Some(before), Some(after)) => options.ask = Ask::Versions([open(&before)?, open(&after)?]),
+        (Some(before), Some(after)) => options.versions = Some([open(&before)?, open(&after)?]),
         (None, None) => {}
         _ => return Usage::wrong("--before and --after go together"),
+    }
+    let table = matches!(options.ask, Ask::Table) && options.versions.is_some();
+    if options.peak_fit == PeakFit::Parabolic && !table {
+        return Usage::wrong("--parabolic is for the table of two builds");
+    }
+    if matches!(options.ask, Ask::Arch) && options.versions.is_some() {
+        return Usage::wrong("--arch is not for two builds");
     }
     Ok(options)
 }
@@ -226,14 +239,14 @@ fn main() -> ExitCode {
     console::run("bench", HELP, |words| {
         let options = options(words)?;
         let (repeats, picture, largest) = (options.repeats, &options.picture, options.largest);
-        match &options.ask {
-            Ask::Table => run(&options),
-            Ask::Arch => arch::times(repeats, picture, largest),
-            Ask::Versions(libraries) => {
-                versions::times(libraries, repeats, picture, &sizes(largest))
-            }
-            Ask::Scalars => scalars::times(repeats),
-            Ask::Distances => scalars::distances(),
+        let (versions, fit) = (options.versions.as_ref(), options.peak_fit);
+        match (&options.ask, versions) {
+            (Ask::Table, None) => run(&options),
+            (Ask::Table, Some(two)) => versions::times(two, repeats, picture, &sizes(largest), fit),
+            (Ask::Arch, _) => arch::times(repeats, picture, largest),
+            (Ask::Scalars, None) => scalars::times(repeats),
+            (Ask::Scalars, Some(two)) => scalars::both(two, repeats),
+            (Ask::Distances, two) => scalars::distances(two),
         }
         Ok(ExitCode::SUCCESS)
     })

@@ -3,11 +3,12 @@
 use std::hint::black_box;
 
 use steyrbunk::lent::Buffers;
-use steyrbunk::{Finder, Image, Settings};
+use steyrbunk::{Finder, Image, PeakFit, Settings};
 
 use crate::clock::{timed, NAME};
 use crate::frames::Picture;
 use crate::library::Library;
+use crate::scalars;
 use crate::table::median;
 
 /// What is timed: the column table by itself, then what it is a part of.
@@ -16,13 +17,15 @@ enum Part {
     Columns,
     Rays,
     Map,
+    List,
     Whole,
 }
 
-const PARTS: [(Part, &str); 4] = [
+const PARTS: [(Part, &str); 5] = [
     (Part::Columns, "table down columns"),
     (Part::Rays, "tables and response"),
     (Part::Map, "map, blur 1"),
+    (Part::List, "list"),
     (Part::Whole, "whole"),
 ];
 
@@ -30,20 +33,64 @@ const PARTS: [(Part, &str); 4] = [
 const SMALLEST: (usize, usize, u32) = (48, 48, 1);
 /// Working pixels of a timed call at least: small frames are called as often as that takes.
 const LEAST: usize = 1_000_000;
-/// Corners that the list has room for.
-const ROOM: usize = 32_768;
 
 /// A frame, and what both builds are lent.
 struct Bench<'a> {
     image: Image<'a>,
     settings: Settings,
     sides: (usize, usize),
+    corners: usize,
     finder: Finder,
     list: Vec<f32>,
 }
 
-/// Every buffer to the bit, and what was told.
-type Left = (Vec<u8>, Vec<Vec<u32>>, [usize; 3]);
+/// What a call left in every buffer, to the bit, and what it told.
+#[derive(PartialEq)]
+struct Left {
+    working: Vec<u8>,
+    buffers: Vec<Vec<u32>>,
+    list: Vec<u32>,
+    told: [usize; 3],
+}
+
+impl Left {
+    /// Whether two calls left the same but for the places of their corners.
+    fn same_but_places(&self, other: &Left) -> bool {
+        let strengths = |left: &Left| -> Vec<u32> {
+            let corners = left.list.chunks_exact(3);
+            corners.map(|corner| corner[2]).collect()
+        };
+        self.told == other.told
+            && self.working == other.working
+            && self.buffers == other.buffers
+            && strengths(self) == strengths(other)
+            && self.list[3 * self.told[0]..] == other.list[3 * other.told[0]..]
+    }
+}
+
+/// How far the places of two builds lie apart where their logarithms differ.
+#[derive(Default)]
+struct Places {
+    coordinates: usize,
+    unequal: usize,
+    /// In input pixels.
+    greatest: f32,
+}
+
+impl Places {
+    fn take(&mut self, before: &Left, after: &Left) {
+        let numbers = before.list.iter().zip(&after.list).enumerate();
+        let found = numbers
+            .take(3 * before.told[0])
+            .filter(|(at, _)| at % 3 < 2);
+        for (_, (before, after)) in found {
+            self.coordinates += 1;
+            self.unequal += usize::from(before != after);
+            let distance = (f32::from_bits(*before) - f32::from_bits(*after)).abs();
+            self.greatest = self.greatest.max(distance);
+        }
+    }
+}
 
 /// A call with what it reads, the slices it is lent and what it tells.
 macro_rules! lend {
@@ -55,20 +102,22 @@ macro_rules! lend {
 }
 
 impl<'a> Bench<'a> {
-    fn new(image: Image<'a>, factor: u32) -> Self {
+    fn new(image: Image<'a>, factor: u32, peak_fit: PeakFit) -> Self {
         let settings = Settings {
             image_upsample: factor,
+            peak_fit,
             ..Settings::default()
         };
         let mut finder = Finder::new();
         let found = finder.find(image, &settings).expect("an accepted frame");
-        assert!(found.corners.len() <= ROOM, "room for all corners");
         Bench {
             image,
             settings,
             sides: (found.width, found.height),
+            corners: found.corners.len(),
             finder,
-            list: vec![0.0; 3 * ROOM],
+            // Room for one more than there are: what stands behind a list must stay.
+            list: vec![0.0; 3 * (found.corners.len() + 1)],
         }
     }
 
@@ -104,6 +153,11 @@ impl<'a> Bench<'a> {
             Part::Map => lend!(library.response;
                 pixels, n, image.width, image.height, s.ray_radius, s.image_upsample, s.response_blur_radius;
                 working, row, col, fall, rise, response, scratch; &mut ww, &mut wh),
+            Part::List => lend!(library.peaks;
+                response.as_ptr(), response.len(), working.as_ptr(), working.len(), w, h,
+                s.ray_radius, s.image_upsample, s.response_blur_radius,
+                fit, s.threshold_rel, s.nms_radius, s.min_cluster_size;
+                self.list; &mut count),
             Part::Whole => lend!(library.find;
                 pixels, n, image.width, image.height, s.ray_radius, s.image_upsample, s.response_blur_radius,
                 fit, s.threshold_rel, s.nms_radius, s.min_cluster_size;
@@ -113,8 +167,13 @@ impl<'a> Bench<'a> {
         [count, ww, wh]
     }
 
-    /// What a call leaves where other things stood: a table that is not filled, or filled from what was there, is seen.
-    fn left(&mut self, library: &Library, part: Part) -> Left {
+    /// Other things where a part is to write: a table that is not filled, or filled from what was there, is seen.
+    fn spoil(&mut self, part: Part) {
+        self.list.fill(f32::MAX);
+        // The list goes by the map.
+        if matches!(part, Part::List) {
+            return;
+        }
         let b = self.finder.lend();
         // The single passes go by the working image; map and whole make it.
         if matches!(part, Part::Map | Part::Whole) {
@@ -128,9 +187,18 @@ impl<'a> Bench<'a> {
         ] {
             table.fill(0xDEAD_BEEF);
         }
-        for numbers in [b.response, b.blur_scratch, &mut self.list] {
+        for numbers in [b.response, b.blur_scratch] {
             numbers.fill(f32::MAX);
         }
+    }
+
+    /// What a call leaves and tells.
+    fn left(&mut self, library: &Library, part: Part) -> Left {
+        // An earlier part leaves a response without its blur.
+        if matches!(part, Part::List) {
+            self.call(library, Part::Map);
+        }
+        self.spoil(part);
         let told = self.call(library, part);
         let bits = |numbers: &[f32]| numbers.iter().map(|x| x.to_bits()).collect();
         let b = self.finder.lend();
@@ -141,8 +209,13 @@ impl<'a> Bench<'a> {
             b.diag_neg_cumsum,
         ];
         let mut buffers: Vec<Vec<u32>> = tables.map(|table| table.to_vec()).into();
-        buffers.extend([b.response, b.blur_scratch, &mut self.list].map(|numbers| bits(numbers)));
-        (b.working.to_vec(), buffers, told)
+        buffers.extend([b.response, b.blur_scratch].map(|numbers| bits(numbers)));
+        Left {
+            working: b.working.to_vec(),
+            buffers,
+            list: bits(&self.list),
+            told,
+        }
     }
 
     /// Nanoseconds of so many calls.
@@ -155,8 +228,24 @@ impl<'a> Bench<'a> {
     }
 
     /// Both builds in turn, and the one that goes first in turn too, so that neither has the warmer caches.
-    fn row(&mut self, [before, after]: &[Library; 2], (part, name): (Part, &str), repeats: usize) {
-        let same = self.left(before, part) == self.left(after, part);
+    fn row(
+        &mut self,
+        [before, after]: &[Library; 2],
+        (part, name): (Part, &str),
+        repeats: usize,
+        places: Option<&mut Places>,
+    ) {
+        let left = [before, after].map(|library| self.left(library, part));
+        let same = match places {
+            None => left[0] == left[1],
+            Some(places) => {
+                // The list alone has the same places.
+                if matches!(part, Part::Whole) {
+                    places.take(&left[0], &left[1]);
+                }
+                left[0].same_but_places(&left[1])
+            }
+        };
         assert!(same, "both builds leave the same");
         let times = LEAST.div_ceil(self.working());
         let (mut old, mut new) = (Vec::new(), Vec::new());
@@ -172,12 +261,13 @@ impl<'a> Bench<'a> {
         let ratios: Vec<f64> = new.iter().zip(&old).map(|(new, old)| new / old).collect();
         let each = |nanoseconds: &[f64]| median(nanoseconds) / (times * self.working()) as f64;
         println!(
-            "| {}x{} x{} | {}x{} | {name} | {:.3} | {:.3} | {:.3} |",
+            "| {}x{} x{} | {}x{} | {} | {name} | {:.3} | {:.3} | {:.3} |",
             self.image.width,
             self.image.height,
             self.settings.image_upsample,
             self.sides.0,
             self.sides.1,
+            self.corners,
             each(&old),
             each(&new),
             median(&ratios),
@@ -191,15 +281,18 @@ pub fn times(
     repeats: usize,
     picture: &(String, Picture),
     sizes: &[(usize, usize, u32)],
+    peak_fit: PeakFit,
 ) {
     let name = &picture.0;
-    println!("Medians of {repeats} turns, {NAME}, one thread; picture: {name}. Both builds have the same frames and");
-    println!(
-        "buffers, and before the turns must leave the same in each. The ratio is the median of the turns' own ratios."
-    );
+    // Where both builds have one logarithm, Gaussian places too must be the same.
+    let differ = peak_fit == PeakFit::Gaussian && scalars::differ(libraries);
+    let mut places = differ.then(Places::default);
+    println!("Medians of {repeats} turns, {NAME}, one thread; picture: {name}, {peak_fit:?} peaks. Both builds have the");
+    println!("same frames and buffers, and before the turns must leave the same in each. The ratio is the median of the");
+    println!("turns' own ratios.");
     println!();
-    println!("| Frame and factor | Working image | Part | Before, ns a working pixel | After | After / before |");
-    println!("|---|---|---|---:|---:|---:|");
+    println!("| Frame and factor | Working image | Corners | Part | Before, ns a working pixel | After | After / before |");
+    println!("|---|---|---:|---|---:|---:|---:|");
     for (width, height, factor) in [SMALLEST].iter().chain(sizes).copied() {
         let pixels = picture.1.pixels(width, height);
         let image = Image {
@@ -207,9 +300,17 @@ pub fn times(
             width,
             height,
         };
-        let mut bench = Bench::new(image, factor);
+        let mut bench = Bench::new(image, factor, peak_fit);
         for part in PARTS {
-            bench.row(libraries, part, repeats);
+            let lists = matches!(part.0, Part::List | Part::Whole);
+            bench.row(libraries, part, repeats, places.as_mut().filter(|_| lists));
         }
+    }
+    if let Some(places) = places {
+        println!();
+        println!(
+            "The builds' logarithms differ, and so may the places: {} of {} coordinates do, by {:.2e} input pixels at most.",
+            places.unequal, places.coordinates, places.greatest
+        );
     }
 }
