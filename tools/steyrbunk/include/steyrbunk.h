@@ -207,7 +207,8 @@ uint32_t steyrbunk_read_record(
 /* The nearest float to the root of a finite number from +0 up; NaN of any other. */
 float steyrbunk_sqrt(float x);
 
-/* Document 01's logarithm of a number from 2^-6 to 2^24; NaN of any other. */
+/* The logarithm of a number from 2^-6 to 2^24: within 2^-19 of document 01's L, whose sums go to n = 17
+ * since document 02's fourth request. NaN of any other. */
 float steyrbunk_ln(float x);
 
 #ifdef __cplusplus

@@ -9,7 +9,8 @@ pub fn sqrt(x: f32) -> f32 {
     unsafe { raw::steyrbunk_sqrt(x) }
 }
 
-/// Document 01's logarithm of a number from 2^-6 to 2^24.
+/// The logarithm of a number from 2^-6 to 2^24: within 2^-19 of document 01's L, whose sums go to n = 17 since
+/// document 02's fourth request.
 #[inline]
 pub fn ln(x: f32) -> f32 {
     // SAFETY: as above.

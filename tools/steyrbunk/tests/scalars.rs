@@ -10,7 +10,7 @@ fn within() {
     }
     for bits in (0x3C80_0000..=0x4B80_0000u32).step_by(10_007) {
         let x = f32::from_bits(bits);
-        assert!((ln(x) - x.ln()).abs() < 2.9e-5, "{x:e}");
+        assert!((ln(x) - x.ln()).abs() < 2e-6, "{x:e}");
     }
 }
 
