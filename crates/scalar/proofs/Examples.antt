@@ -1,4 +1,4 @@
--- Worked values of the two definitions, computed. Assumes nothing.
+-- Worked values of the two definitions, computed, and the logarithm beside sums that end earlier. Assumes nothing.
 use mathlib.Core.Path.{_≡_, refl, sym, ap, _∙_}
 use mathlib.Core.Bool.{true, false, cond, _&&_}
 use Prim.Native.Nat.{ℕ, _+_, _*_, _/_}
@@ -99,10 +99,14 @@ eight-give-the-same H x =
     (ap (λ (c : ℕ). difference (unitsOf 8 (toBits binary32 x)) (6 * c)) third-of-eight
     ∙ ap (λ (a : ℕ). difference a (6 * cutThird 9)) (units-of-eight (toBits binary32 x)))
 
--- seven do not: at z of the number before 1 the term of n = 15 is a unit
-before-one : lessOne 0x3f7f_ffff * unit / moreOne 0x3f7f_ffff ≡ 89478478
-before-one = refl
+-- seven do not: of the number before 1 a code whose sum ends at n = 13 makes -12 units of 2 ^ -27, where it is to be -11
+log-before-one : logOf terms high (fin false 16777215 (negsuc 23)) ≡ L.Value (fin true 11 (negsuc 26))
+unfolding logOf le toBits
+log-before-one = refl
 
-seven-give-less : cutSum 89478478 7 + 1 ≡ cutSum 89478478 9
-unfolding cutSum
+before-one : (doublings 0x3f7f_ffff ≡ 5) × (lessOne 0x3f7f_ffff * unit / moreOne 0x3f7f_ffff ≡ 89478478)
+before-one = (refl, refl)
+
+seven-give-less : difference (5 * cutThird terms + cutSum 89478478 7) (6 * cutThird terms) ≡ fin true 3 (negsuc 24)
+unfolding difference cutThird cutSum
 seven-give-less = refl
