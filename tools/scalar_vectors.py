@@ -4,9 +4,9 @@
 usage: tools/scalar_vectors.py > crates/replay_scalar/stdin
 
 Roots: the platform's root (math.sqrt of the f32 in double, rounded to an f32), checked to be the nearest by comparing
-squares of whole numbers exactly, and that the nearest is no tie. Logarithms: L in exact rationals, as document 01 has it,
-rounded to units of 2^-40; and the f32 of the team's definition, computed here anew in whole numbers. The same seed gives
-the same bytes. After a first line of text, all numbers big-endian, 4 bytes each but L:
+squares of whole numbers exactly, and that the nearest is no tie. Logarithms: L in exact rationals, as document 01 has it
+with document 02's last term, rounded to units of 2^-40; and the f32 of the team's definition, computed here anew in whole
+numbers. The same seed gives the same bytes. After a first line of text, all numbers big-endian, 4 bytes each but L:
 
     number of roots; for each the pattern of x and of its root, FFFFFFFF for "outside"
     number of logarithms; for each the pattern of x and of its logarithm, FFFFFFFF for "outside"; the size

@@ -11,7 +11,7 @@ use crate::library::Library;
 use crate::scalars;
 use crate::table::median;
 
-/// What is timed: the column table by itself, then what it is a part of.
+/// What is timed: the column table by itself, what it is a part of, and the list.
 #[derive(Clone, Copy)]
 enum Part {
     Columns,
