@@ -30,6 +30,10 @@ fn made_frames() {
     );
     assert_eq!(status, 0, "{text}");
     assert!(text.contains("400 frames: 400 agreed, 0 differ, 0 could not be read"));
+    // What `tools/lean` reads: the last line, with coordinates, mean distance, mean lean and the greatest.
+    let all: Vec<&str> = text.lines().last().unwrap().split_whitespace().collect();
+    let numbers = all[1..].iter().map(|word| word.parse::<f64>());
+    assert!(all[0] == "all" && numbers.filter_map(Result::ok).count() == 4);
     let (text, status) = run(
         &folder,
         &[
