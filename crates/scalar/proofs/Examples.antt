@@ -46,7 +46,8 @@ log-of-one : logOf terms high (fin false 1 (pos 0)) ≡ L.Value (fin false 0 (po
 unfolding logOf le toBits
 log-of-one = refl
 
--- 93032639 / 2 ^ 27 is 0.693147.., and 93032640 / 2 ^ 27 the nearest f32, which is that of ln 2 itself; the logarithm of a half is its negative
+-- 93032639 / 2 ^ 27 is 0.693147.., and 93032640 / 2 ^ 27 the nearest f32, which is that of ln 2 itself;
+-- the logarithm of a half is its negative
 log-of-two : logOf terms high (fin false 1 (pos 1)) ≡ L.Value (fin false 1453635 (negsuc 20))
 unfolding logOf le toBits
 log-of-two = refl
@@ -71,7 +72,8 @@ third-of-five : cutThird 5 + 152 ≡ cutThird terms
 unfolding cutThird
 third-of-five = refl
 
--- at 4 two of these are already over 2 ^ -19: the bound alone tells that logarithm, or its constant beside longer sums, from the new one
+-- at 4 two of these are already over 2 ^ -19: the bound alone tells that logarithm from the new one, and so one
+-- with longer sums that has kept its constant
 log-of-four : logOf 5 high (fin false 1 (pos 2)) ≡ L.Value (fin false 11629061 (negsuc 22))
 unfolding logOf le toBits
 log-of-four = refl
@@ -80,7 +82,7 @@ four-is-far : Near terms (fin false 1 (pos 2)) (fin false 11629061 (negsuc 22)) 
 unfolding plus minus whole toBits
 four-is-far = not-le-of-lt (lit< tt)
 
--- ---- beside a sum to n = 15: the ninth term is less than a unit, so that eight give the same f32 for every number
+-- ---- beside a sum to n = 15: the ninth term is less than a unit, so eight give the same f32 for every number
 
 third-of-eight : cutThird 8 ≡ cutThird 9
 unfolding cutThird
@@ -99,7 +101,8 @@ eight-give-the-same H x =
     (ap (λ (c : ℕ). difference (unitsOf 8 (toBits binary32 x)) (6 * c)) third-of-eight
     ∙ ap (λ (a : ℕ). difference a (6 * cutThird 9)) (units-of-eight (toBits binary32 x)))
 
--- seven do not: of the number before 1 a code whose sum ends at n = 13 makes -12 units of 2 ^ -27, where it is to be -11
+-- seven do not: of the number before 1 a code whose sum ends at n = 13 makes -12 units of 2 ^ -27,
+-- where it is to be -11
 log-before-one : logOf terms high (fin false 16777215 (negsuc 23)) ≡ L.Value (fin true 11 (negsuc 26))
 unfolding logOf le toBits
 log-before-one = refl

@@ -40,11 +40,11 @@ impl Class {
 #[derive(Clone, Copy, Debug, Default, PartialEq)]
 pub struct Lean {
     pub coordinates: u64,
-    /// Working pixels toward the greater neighbour, all added up.
+    /// Working pixels toward the greater neighbour, all added up; where both are equal there is no such way.
     pub toward: f64,
-    /// The same without regard to the way.
+    /// Working pixels either way, all added up.
     pub apart: f64,
-    /// The greatest that was added.
+    /// The greatest of these.
     pub greatest: f64,
 }
 
@@ -119,13 +119,13 @@ impl Places<'_> {
     ) -> bool {
         let curvature = slope.curvature;
         if curvature.is_finite() && curvature >= FLAT {
-            let toward = f64::from(ours - theirs) * self.factor as f64 * slope.way;
+            let moved = f64::from(ours - theirs) * self.factor as f64;
             let class = class(slope.doublings, &DOUBLINGS);
             distances.leans[class].join(Lean {
                 coordinates: 1,
-                toward,
-                apart: toward.abs(),
-                greatest: toward.abs(),
+                toward: moved * slope.way,
+                apart: moved.abs(),
+                greatest: moved.abs(),
             });
         }
         // Places are above 0, so their bits are in order.
@@ -223,13 +223,13 @@ mod tests {
     /// A row of values about a peak at its middle; the greater neighbour comes after.
     const ROW: [f32; 3] = [100.0, 800.0, 400.0];
 
-    /// Both coordinates of a peak at (1, 1) of a map of three rows alike, the place along x moved by so much.
-    fn held(moved: f32, factor: usize) -> Distances {
+    /// Both coordinates of a peak at (1, 1), whose neighbours along y are equal; the places along x and y moved by so much.
+    fn held([along, across]: [f32; 2], factor: usize) -> Distances {
         let mut response = [1.0f32; 9];
         response[3..6].copy_from_slice(&ROW);
-        let place = |x: f32| Corner {
+        let place = |x: f32, y: f32| Corner {
             x: x / factor as f32,
-            y: 1.0 / factor as f32,
+            y: y / factor as f32,
             strength: 800.0,
         };
         let places = Places {
@@ -248,26 +248,38 @@ mod tests {
             bound: BOUND,
         };
         let mut distances = Distances::default();
-        places.near(&place(1.25), &place(1.25 + moved), &mut distances);
+        let ours = place(1.25 + along, 1.0 + across);
+        places.near(&place(1.25, 1.0), &ours, &mut distances);
         distances
     }
+
+    const STEP: f32 = 0.000_244_140_625;
 
     /// Ours a little further to the greater neighbour, or to the lower one: the lean has that sign, in working pixels, in the
     /// class of the three doublings from the lower neighbour to the peak. Along y, where nothing moved, it is 0.
     #[test]
     fn the_way_is_told() {
-        let step = 0.000_244_140_625;
-        for (moved, factor) in [(step, 1), (-step, 1), (step, 2), (-step, 2)] {
-            let distances = held(moved, factor);
+        for (moved, factor) in [(STEP, 1), (-STEP, 1), (STEP, 2), (-STEP, 2)] {
+            let distances = held([moved, 0.0], factor);
             let [_, _, lean, _, last] = distances.leans;
             assert_eq!((lean.coordinates, last.coordinates), (1, 1));
-            assert_eq!((lean.toward, lean.apart), (moved.into(), step.into()));
+            assert_eq!((lean.toward, lean.apart), (moved.into(), STEP.into()));
             assert_eq!((last.toward, last.apart, last.greatest), (0.0, 0.0, 0.0));
             assert_eq!(lean.mean(lean.toward), f64::from(moved));
             assert_eq!((distances.equal, distances.all().coordinates), (1, 1));
         }
-        let same = held(0.0, 2);
+        let same = held([0.0; 2], 2);
         assert_eq!((same.equal, same.all().coordinates), (2, 0));
         assert_eq!(same.leans[2].coordinates, 1);
+    }
+
+    /// Between two equal neighbours a place that moved has a distance, and no way.
+    #[test]
+    fn no_way_between_equal_neighbours() {
+        for moved in [STEP, -STEP] {
+            let last = held([0.0, moved], 2).leans[4];
+            assert_eq!((last.coordinates, last.toward), (1, 0.0));
+            assert_eq!((last.apart, last.greatest), (STEP.into(), STEP.into()));
+        }
     }
 }
