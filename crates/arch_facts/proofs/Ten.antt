@@ -1,4 +1,4 @@
--- "10 isn't given here": a file that is not over its limit does not read as one, the finder answers at most 9, and a frame that is not whole is
+-- "10 isn't given here": a file that is not over its limit does not read as one, the finder does not answer it, and a frame that is not whole is
 -- answered 11 or 13. Assumes nothing.
 use mathlib.Core.Path.{_≡_, sym, _∙_}
 use mathlib.Core.Bool.{Bool, true, false, not, cond}
@@ -6,8 +6,8 @@ use mathlib.Core.List.{List}
 use Prim.Native.Nat.{ℕ, _+_, _-_, _≤_}
 use native.Mathlib.Decide.{ℕ-discrete}
 use native.Mathlib.Omega.{arith}
-use borrow.Author.Tests.{le-ltb, leb-true, eq-eqb, ne-eqb}
-use lib.Dec.{T, ltb, leb, eqb}
+use borrow.Author.Tests.{le-ltb, eq-eqb, ne-eqb}
+use lib.Dec.{T, ltb, eqb}
 use lib.ListN.{length, take, drop, length-take}
 use Rattle.big_endian.specs.BigEndian.{byteAt, wordAt}
 use Rattle.params.specs.declared.answers.Answer.{Answer}
@@ -22,39 +22,38 @@ use Rattle.frame.specs.declared.Reading.the-variants as reading
 use Rattle.frame.specs.FrameFile.{withMode, headerRead, readOf}
 use Rattle.response.specs.Map.{roomOf}
 use Rattle.radon.specs.Finder.{Buffers, answered, outcomeOf}
-use Rattle.radon.proofs.Left.{is-true}
 use Rattle.frame_runner.specs.FileAnswer.{outcomeFor}
 use Rattle.arch_plan.specs.declared.due.Due.the-variants.{Whole, Refused}
 use Rattle.arch_plan.specs.Plan.{dueIn}
 use Rattle.arch_facts.proofs.Fold.{readIn}
 
--- ---- the finder's answers end at 9
+-- ---- the finder's answers
 
-record Low (a : Answer) : Type 0 where
-  most : numberOf a ≤ 9
+record Other (a : Answer) : Type 0 where
+  never : numberOf a ≡ 10 → ⊥
 
-low : (t : Bool) (x y : Answer) → Low x → Low y → Low (cond t x y)
-low true x y u v = u
-low false x y u v = v
+either : (t : Bool) (x y : Answer) → Other x → Other y → Other (cond t x y)
+either true x y u v = u
+either false x y u v = v
 
-leaf : (a : Answer) → T (leb (numberOf a) 9) → Low a
-leaf a t = record { most = leb-true (numberOf a) 9 (is-true (leb (numberOf a) 9) t) }
+leaf : (a : Answer) → T (not (eqb (numberOf a) 10)) → Other a
+leaf a t = record { never = λ e. absurd (rw (eq-eqb (numberOf a) 10 e) at t) }
 
-low-stage : (a b : Answer) → Low a → Low b → Low (orElse a b)
-low-stage a b u v = low (eqb (numberOf a) 0) b a v u
+stage : (a b : Answer) → Other a → Other b → Other (orElse a b)
+stage a b u v = either (eqb (numberOf a) 0) b a v u
 
 -- one test after the other, and no refusal at the end
-refusal-low : (w h image : ℕ) (p : RadonDetectorParams) (room : ℕ) → Low (refusalOf w h image p room)
+refusal-other : (w h image : ℕ) (p : RadonDetectorParams) (room : ℕ) → Other (refusalOf w h image p room)
 unfolding refusalOf sizeRefusal mapRefusal listRefusal roomRefusal
-refusal-low w h image p room = search (low, low-stage, leaf, tt) depth 12
+refusal-other w h image p room = search (either, stage, leaf, tt) depth 13
 
-finder-low : (img : List ℕ) (w h : ℕ) (p : RadonDetectorParams) (b : Buffers) → Low ((outcomeOf img w h p b) .answer)
+finder-other : (img : List ℕ) (w h : ℕ) (p : RadonDetectorParams) (b : Buffers) → Other ((outcomeOf img w h p b) .answer)
 unfolding outcomeOf
-finder-low img w h p b = by (ℕ-discrete (numberOf (answered img w h p b)) 0)
+finder-other img w h p b = by (ℕ-discrete (numberOf (answered img w h p b)) 0)
   where
-    by : Dec (numberOf (answered img w h p b) ≡ 0) → Low ((outcomeOf img w h p b) .answer)
-    by (yes z) = rw (eq-eqb (numberOf (answered img w h p b)) 0 z) (search (low, leaf, tt))
-    by (no z) = rw (ne-eqb (numberOf (answered img w h p b)) 0 z) (refusal-low w h (length img) p (roomOf (b .map)))
+    by : Dec (numberOf (answered img w h p b) ≡ 0) → Other ((outcomeOf img w h p b) .answer)
+    by (yes z) = rw (eq-eqb (numberOf (answered img w h p b)) 0 z) (search (either, leaf, tt))
+    by (no z) = rw (ne-eqb (numberOf (answered img w h p b)) 0 z) (refusal-other w h (length img) p (roomOf (b .map)))
 
 -- ---- a reading
 
@@ -95,8 +94,7 @@ read-not-ten limit file within =
 
 pub told-not-ten : (file : List ℕ) (b : Buffers) (r : Reading) → NotTen r → numberOf ((outcomeFor file b r) .answer) ≡ 10 → ⊥
 told-not-ten file b (reading.Refused a) z e = z .never e
-told-not-ten file b (reading.Frame h) z e =
-    omega (arith, finder-low (drop 20 file) (h .width) (h .height) (h .params) b .most)
+told-not-ten file b (reading.Frame h) z e = finder-other (drop 20 file) (h .width) (h .height) (h .params) b .never e
 
 -- ---- a camera's
 

@@ -1,12 +1,12 @@
--- The Rust's list is document 01's, over a map whose values are 0 or from 2^-6 to 2^24, and over an image of bytes. Assumes nothing.
+-- The Rust's list is document 01's, over a map above twice the border a side, whose values are 0 or from 2^-6 to 2^24, and over an image of bytes.
+-- Assumes nothing.
 use mathlib.Core.Path.{_≡_, refl, ap, _∙_}
-use mathlib.Core.Logic.{inl, inr}
-use mathlib.Core.Bool.{Bool, true, false, not, cond, _&&_, _||_}
+use mathlib.Core.Bool.{Bool, true, false, not, cond, _&&_}
 use mathlib.Core.List.{List, [], _∷_, _++_}
 use Prim.Native.Nat.{ℕ, zero, suc, _+_, _-_, _*_, _^_, _≤_, _<_, max}
 use native.Mathlib.Nat.{mul-pos}
 use native.Mathlib.Omega.{arith}
-use borrow.Author.Tests.{leb-true, leb-false, le-ltb, eqb-true}
+use borrow.Author.Tests.{lt-leb, le-ltb, ne-eqb}
 use lib.Dec.{T, ltb, leb, eqb}
 use lib.ListN.{length, getD}
 use lib.IntN.{pos}
@@ -15,12 +15,12 @@ use Rattle.grid.proofs.Plane.{pixel-in}
 use Rattle.grid.specs.Ways.{pixel}
 use Rattle.grid.specs.Each.{each, keep}
 use Rattle.grid.proofs.Each.{each-more, each-none, keep-none, keep-yes, keep-no}
-use Rattle.grid.specs.Rect.{Place, place, rect, range, from, line}
+use Rattle.grid.specs.Rect.{Place, place}
 use Rattle.grid.proofs.Rect.{before}
 use Rattle.params.specs.declared.settings.RadonDetectorParams.{RadonDetectorParams}
 use Rattle.params.specs.declared.settings.PeakFitMode.{PeakFitMode}
 use Rattle.params.specs.declared.settings.PeakFitMode.the-variants.{Parabolic, Gaussian}
-use Rattle.params.specs.Settings.{factorOf, rayOf}
+use Rattle.params.specs.Settings.{factorOf, rayOf, borderOf}
 use Rattle.params.specs.Coordinates.{toInput, scaleOf}
 use Rattle.params.proofs.Accepted.{ListPasses}
 use Rattle.scalar.specs.Log.{logOf, terms, high}
@@ -31,7 +31,7 @@ use Rattle.verdict.specs.Window.{beaten, positives}
 use Rattle.saddle.specs.declared.Saddle.{Saddle}
 use Rattle.crests.specs.Maximum.{maximum}
 use Rattle.verdict.specs.Verdict.{firstFailing, bySaddle, isSaddle, isKept, verdict}
-use Rattle.detect.specs.Corners.{borderOf, candidates, floorOf, corners, inputAt, numbers}
+use Rattle.detect.specs.Corners.{floorOf, corners, inputAt, numbers}
 use Rattle.peak_fit.proofs.AsRust.{rustClamp, rustPeak, fit-as-rust as clamped-fit}
 use Rattle.as_rust.specs.Machine.{Machine, Sound, _⊖_, _⊗_, _⊘_, lit-0, lit-1, lit-half, lit-minus-half}
 use Rattle.as_rust.specs.Machine.{clamp, maxℤ, i32, usize, as-i32, as-usize, as-f32, float-at}
@@ -40,7 +40,7 @@ use Rattle.as_rust.specs.Response.{RadonResponseView}
 use Rattle.as_rust.specs.Detect.{relative-floor, new, border-of, process-pixel, detect-peaks-from-radon}
 use Rattle.as_rust.specs.Runs.{numbers-by}
 use Rattle.as_rust.proofs.Machine.{usize-is, less-is, i32-is, i32-cast, inside}
-use Rattle.as_rust.proofs.Tests.{T-true, or-true, or-false, above-0, at-least}
+use Rattle.as_rust.proofs.Tests.{T-true, at-least}
 use Rattle.as_rust.proofs.Loops.{rect-loop}
 use Rattle.as_rust.proofs.Tables.{Image}
 use Rattle.as_rust.proofs.Map.{clamped-is}
@@ -109,7 +109,7 @@ scale-as-rust u = go (factorOf u) (omega arith) (omega arith)
     go (suc (suc zero)) a b = unfold div ofInt ofBits in refl
     go (suc (suc (suc k))) a b = absurd (omega arith)
 
--- ---- 66-73: the border, and no candidates
+-- ---- 66-73: the border
 
 -- a sum of i32 that is not negative
 clipped : (m : Machine) (n : ℕ) → n < 2 ^ 31 → as-usize (maxℤ (i32 m (pos n)) (pos 0)) ≡ n
@@ -118,23 +118,6 @@ clipped m n b = rw (i32-is m n b, le-ltb n 0 (omega arith))
 border-is : (m : Machine) (ray nms : ℕ) → ray ≤ 7 → nms ≤ 32 → border-of m (pos ray) (pos nms) ≡ ray + nms + 1
 unfolding border-of
 border-is m ray nms a b = rw (i32-is m (ray + nms) (omega arith)) (clipped m (ray + nms + 1) (omega arith))
-
-none-each : {A B : Type 0} (f : A → List B) → ((a : A) → f a ≡ []) → (l : List A) → each f l ≡ []
-unfolding each
-none-each f e [] = refl
-none-each f e (a ∷ l) = rw (e a) (none-each f e l)
-
-none-range : (a e : ℕ) → e ≤ a → range a e ≡ []
-unfolding range from
-none-range a e b = let z : e - a ≡ 0 = omega arith in rw z
-
-narrow : (w h b : ℕ) → w ≤ 2 * b → candidates w h b ≡ []
-unfolding rect line
-narrow w h b l = none-each _ (λ y. rw (none-range b (w - b) (omega arith)) (each-none _)) (range b (h - b))
-
-low : (w h b : ℕ) → h ≤ 2 * b → candidates w h b ≡ []
-unfolding rect
-low w h b l = rw (none-range b (h - b) (omega arith)) (each-none _)
 
 -- ---- 103-116: the three numbers are document 01's where the logarithms are
 
@@ -179,7 +162,7 @@ abbrev decided : Bool → Bool → Bool → Bool → List (List Float) → List 
 decided a b c d sink n = cond a sink (cond b sink (cond c sink (cond d sink (sink ++ (n ∷ [])))))
 
 module _ (m : Machine) (sound : Sound m) (v : RadonResponseView) (p : RadonDetectorParams) (o : Viewed v)
-    (ray : p .«ray_radius» ≤ 7) (l : ListPasses p) where
+    (ray : p .«ray_radius» ≤ 7) (l : ListPasses (v .w) (v .h) p) where
   abbrev w : ℕ
   w = v .w
 
@@ -227,10 +210,6 @@ module _ (m : Machine) (sound : Sound m) (v : RadonResponseView) (p : RadonDetec
   turn ps x y true true false d e s = rw (keep-no test ps (place x y) e) s
   turn ps x y true false c d e s = rw (keep-no test ps (place x y) e) s
   turn ps x y false b c d e s = rw (keep-no test ps (place x y) e) s
-
-  empty : candidates w h B ≡ [] → [] ≡ listed m p w h f g
-  unfolding corners
-  empty e = rw (e, keep-none, each-none)
 
   abbrev above : ℕ → ℕ → Bool
   above x y = lt (t ⊗ maximum w h f) (f x y)
@@ -287,10 +266,33 @@ module _ (m : Machine) (sound : Sound m) (v : RadonResponseView) (p : RadonDetec
       ((λ i. decided (floored i) (not (largest i)) (counted i) (not (saddled i)) sink (numbers-by m p f (place x y)))
       ∙ turn ps x y (above x y) (not (beaten f nms (place x y))) (enough x y) (isKept (bySaddle (isSaddle p g (place x y)))) (kept x y) s)
 
-  -- 42-145
+  -- 42-145. A frame above twice the border has pixels, so that no early return is taken
   pub detect-as-rust : detect-peaks-from-radon m v p ≡ listed m p (v .w) (v .h) (value (v .«data») (v .w)) (pixel (v .image) (v .w))
   unfolding detect-peaks-from-radon corners
-  detect-as-rust = go (eqb w 0 || eqb h 0) (leb w (2 * B) || leb h (2 * B)) refl refl
+  detect-as-rust =
+      let best : Good (maximum w h f) = peak-good vs w h (o .long) some (o .good) in
+      rw (
+        ne-eqb w 0 (λ e. omega (arith, l .wider)),
+        ne-eqb h 0 (λ e. omega (arith, l .higher)),
+        peak-as-rust vs w h (o .long) some (o .good),
+        good-finite best,
+        ray-is,
+        cast,
+        cast-nms,
+        border,
+        twice,
+        lt-leb w (2 * B) (l .wider),
+        lt-leb h (2 * B) (l .higher),
+        clamped-is (p .«image_upsample»),
+        less-is m h B (omega (arith, l .higher)),
+        less-is m w B (omega (arith, l .wider)),
+      )
+      (rect-loop (λ ps sink. sink ≡ each (λ q. numbers-by m p f q ∷ []) (keep test ps)) B (w - B) B (h - B)
+      (λ y x sink.
+      process-pixel m v p (new m (rayOf (p .«ray_radius»))) (relative-floor m t (maximum w h f)) (pos nms)
+      (lit-1 ⊘ as-f32 up) y x sink)
+      [] (omega (arith, l .wider)) (omega (arith, l .higher)) (rw (keep-none, each-none))
+      (λ x y sink a b c d s. pixel-as-rust best (before B (w - B) B x y) x y sink a (omega arith) c (omega arith) s))
     where
       ray-is : max (p .«ray_radius») 1 ≡ rayOf (p .«ray_radius»)
       ray-is = omega arith
@@ -307,42 +309,5 @@ module _ (m : Machine) (sound : Sound m) (v : RadonResponseView) (p : RadonDetec
       twice : usize m (2 * B) ≡ 2 * B
       twice = usize-is m (2 * B) (omega (arith, l .suppression))
 
-      some : (eqb w 0 || eqb h 0) ≡ false → 0 < w * h
-      some e = mul-pos (above-0 w (or-false (eqb w 0) (eqb h 0) e .0)) (above-0 h (or-false (eqb w 0) (eqb h 0) e .1))
-
-      go : (a b : Bool) → (eqb w 0 || eqb h 0) ≡ a → (leb w (2 * B) || leb h (2 * B)) ≡ b → detect-peaks-from-radon m v p ≡ listed m p w h f g
-      go true b e q = rw e (elim (or-true (eqb w 0) (eqb h 0) e) [
-        | inl z ↦ empty (narrow w h B (omega (arith, eqb-true w 0 z)))
-        | inr z ↦ empty (low w h B (omega (arith, eqb-true h 0 z)))
-      ])
-      go false true e q =
-          let best : Good (maximum w h f) = peak-good vs w h (o .long) (some e) (o .good) in
-          rw (e, peak-as-rust vs w h (o .long) (some e) (o .good), good-finite best, ray-is, cast, cast-nms, border, twice, q)
-          (elim (or-true (leb w (2 * B)) (leb h (2 * B)) q) [
-            | inl z ↦ empty (narrow w h B (leb-true w (2 * B) z))
-            | inr z ↦ empty (low w h B (leb-true h (2 * B) z))
-          ])
-      go false false e q =
-          let best : Good (maximum w h f) = peak-good vs w h (o .long) (some e) (o .good) in
-          let wider : 2 * B < w = leb-false w (2 * B) (or-false (leb w (2 * B)) (leb h (2 * B)) q .0) in
-          let higher : 2 * B < h = leb-false h (2 * B) (or-false (leb w (2 * B)) (leb h (2 * B)) q .1) in
-          rw (
-            e,
-            peak-as-rust vs w h (o .long) (some e) (o .good),
-            good-finite best,
-            ray-is,
-            cast,
-            cast-nms,
-            border,
-            twice,
-            q,
-            clamped-is (p .«image_upsample»),
-            less-is m h B (omega arith),
-            less-is m w B (omega arith),
-          )
-          (rect-loop (λ ps sink. sink ≡ each (λ q. numbers-by m p f q ∷ []) (keep test ps)) B (w - B) B (h - B)
-          (λ y x sink.
-          process-pixel m v p (new m (rayOf (p .«ray_radius»))) (relative-floor m t (maximum w h f)) (pos nms)
-          (lit-1 ⊘ as-f32 up) y x sink)
-          [] (omega arith) (omega arith) (rw (keep-none, each-none))
-          (λ x y sink a b c d s. pixel-as-rust best (before B (w - B) B x y) x y sink a (omega arith) c (omega arith) s))
+      some : 0 < w * h
+      some = mul-pos (omega (arith, l .wider)) (omega (arith, l .higher))

@@ -34,18 +34,21 @@ working-passes w h e =
 pub asked : (s : RadonDetectorParams) (w h a b : ℕ) → numberOf (peaksRefusal w h s (min a b)) ≡ 0 → Asked s w h a b
 unfolding peaksRefusal
 asked s w h a b e =
-    let x = both-pass (workingRefusal w h) (orElse (mapRefusal s) (orElse (listRefusal s) (roomRefusal (w * h) (min a b)))) e in
-    let y = both-pass (mapRefusal s) (orElse (listRefusal s) (roomRefusal (w * h) (min a b))) (x .1) in
-    let z = both-pass (listRefusal s) (roomRefusal (w * h) (min a b)) (y .1) in
+    let last = roomRefusal (w * h) (min a b) in
+    let x = both-pass (workingRefusal w h) (orElse (mapRefusal s) (orElse (listRefusal w h s) last)) e in
+    let y = both-pass (mapRefusal s) (orElse (listRefusal w h s) last) (x .1) in
+    let z = both-pass (listRefusal w h s) last (y .1) in
     let size = working-passes w h (x .0) in
     let map = map-passes s (y .0) in
-    let list = list-passes s (z .0) in
+    let list = list-passes w h s (z .0) in
     let room = room-passes (w * h) (min a b) (z .1) in
     record {
       wide = size .0;
       high = size .1;
       ray = map .ray;
       suppression = list .suppression;
+      wider = list .wider;
+      higher = list .higher;
       response = omega arith;
       working = omega arith;
     }

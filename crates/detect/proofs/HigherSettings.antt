@@ -19,6 +19,7 @@ use Rattle.grid.specs.Over.{written}
 use Rattle.grid.proofs.Over.{opening}
 use Rattle.grid.specs.Ways.{pixel, value}
 use Rattle.params.specs.declared.settings.RadonDetectorParams.{RadonDetectorParams}
+use Rattle.params.specs.Settings.{borderOf}
 use Rattle.params.specs.Answers.{numberOf}
 use Rattle.params.specs.Refusals.{listRefusal, mapRefusal}
 use Rattle.params.proofs.Accepted.{ListPasses, both-pass, list-passes}
@@ -26,7 +27,7 @@ use Rattle.saddle.specs.declared.Saddle.{Saddle}
 use Rattle.saddle.specs.declared.Saddle.the-variants.{Yes, Flat, Curved}
 use Rattle.verdict.specs.Window.{at, beaten, positives}
 use Rattle.crests.specs.Maximum.{maximum}
-use Rattle.detect.specs.Corners.{borderOf, candidates, floorOf, corners, numbers, stride}
+use Rattle.detect.specs.Corners.{candidates, floorOf, corners, numbers, stride}
 use Rattle.verdict.specs.Verdict.{firstFailing, isSaddle, isKept, verdict}
 use Rattle.detect.specs.Detected.{workingRefusal, peaksRefusal, refusalFor, foundIn, listOf}
 use Rattle.detect.proofs.Scanning.{numbers-long}
@@ -111,9 +112,9 @@ module _ (s : RadonDetectorParams) (w h : ℕ) (resp : List Float) (image : List
       rw (accepted-list old e) (opening stride f (numbers-long s (value resp w)) l (length l) old r (omega arith) ∙ ap (each f) (take-length l))
 
   -- settings that are accepted are in range
-  in-range : Accepted → ListPasses s
+  in-range : Accepted → ListPasses w h s
   unfolding peaksRefusal
-  in-range e = list-passes s (both-pass (listRefusal s) _ (both-pass (mapRefusal s) _ (both-pass (workingRefusal w h) _ e .1) .1) .0)
+  in-range e = list-passes w h s (both-pass (listRefusal w h s) _ (both-pass (mapRefusal s) _ (both-pass (workingRefusal w h) _ e .1) .1) .0)
 
 most : (p : Place → Bool) (l : List Place) → length (keep p l) ≤ length l
 unfolding count

@@ -18,12 +18,12 @@ use Rattle.grid.specs.Ways.{Inside as Clear}
 use Rattle.grid.specs.Over.{over, written}
 use Rattle.grid.proofs.All.{all, all-map, all-keep, all-take, all-rect, Between, InRect, each-same, keep-same, any-same}
 use Rattle.params.specs.declared.settings.RadonDetectorParams.{RadonDetectorParams}
-use Rattle.params.specs.Settings.{rayOf}
+use Rattle.params.specs.Settings.{rayOf, borderOf}
 use Rattle.saddle.specs.Saddle.{saddleOf}
 use Rattle.saddle.proofs.Inside.{saddle-same}
 use Rattle.crests.specs.Maximum.{greater, maximum}
 use Rattle.verdict.specs.Window.{at, window, same, beaten, positives}
-use Rattle.detect.specs.Corners.{borderOf, candidates, floorOf, corners, numbers, stride}
+use Rattle.detect.specs.Corners.{candidates, floorOf, corners, numbers, stride}
 use Rattle.verdict.specs.Verdict.{firstFailing, isKept, verdict}
 
 -- ---- the window

@@ -17,12 +17,13 @@ use Rattle.grid.specs.Each.{count}
 use Rattle.grid.specs.Rect.{Place, place}
 use Rattle.grid.proofs.Rect.{any-rect-none}
 use Rattle.params.specs.declared.settings.RadonDetectorParams.{RadonDetectorParams}
+use Rattle.params.specs.Settings.{borderOf}
 use Rattle.params.specs.Answers.{numberOf}
 use Rattle.saddle.specs.declared.Saddle.the-variants.{Yes}
 use Rattle.verdict.specs.declared.Verdict.the-variants.{NotAbove, Kept}
 use Rattle.crests.specs.Maximum.{greater, maximum}
 use Rattle.verdict.specs.Window.{at, beaten, positives}
-use Rattle.detect.specs.Corners.{borderOf, candidates, floorOf, corners}
+use Rattle.detect.specs.Corners.{candidates, floorOf, corners}
 use Rattle.verdict.specs.Verdict.{isSaddle, isKept, verdict}
 use Rattle.detect.specs.Detected.{refusalFor, peaksOutcome}
 use Rattle.grid.specs.Ways.{pixel, value}

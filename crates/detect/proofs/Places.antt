@@ -15,12 +15,12 @@ use Rattle.float.proofs.Shifted.{Within, within-of-le, add-within, held-whole}
 use Rattle.grid.specs.Rect.{Place}
 use Rattle.grid.proofs.All.{all, all-keep, all-rect, InRect}
 use Rattle.params.specs.declared.settings.RadonDetectorParams.{RadonDetectorParams}
-use Rattle.params.specs.Settings.{factorOf}
+use Rattle.params.specs.Settings.{factorOf, borderOf}
 use Rattle.params.specs.Coordinates.{toInput}
 use Rattle.verdict.specs.Window.{at}
 use Rattle.crests.specs.Maximum.{entry}
 use Rattle.peak_fit.specs.PeakFit.{half, minusHalf}
-use Rattle.detect.specs.Corners.{borderOf, corners, offsetX, offsetY, inputAt, numbers}
+use Rattle.detect.specs.Corners.{corners, offsetX, offsetY, inputAt, numbers}
 use Rattle.peak_fit.proofs.Offsets.{Central, fit-central}
 
 -- ---- one coordinate

@@ -3,10 +3,9 @@ use mathlib.Core.Path.{_≡_, refl, sym, ap, _∙_}
 use mathlib.Core.Logic.{_⊎_, inl, inr}
 use mathlib.Core.Bool.{Bool, true, false, not, _&&_, true≢false}
 use Prim.Native.Nat.{ℕ, _+_, _-_, _*_, _/_, _≤_, _<_, _^_, min}
-use native.Mathlib.Decide.{decLe}
 use native.Mathlib.Omega.{arith}
 use mathlib.Core.List.{List, [], _∷_}
-use native.Mathlib.Nat.{zero-mul, mul-zero, div-add-mod'}
+use native.Mathlib.Nat.{div-add-mod'}
 use lib.ListN.{length, getD, take, drop, length-take, length-drop}
 use lib.Seq.{sets, length-take-le, getD-take, getD-drop}
 use lib.Dec.{T, leb, le→leb}
@@ -16,9 +15,8 @@ use Rattle.float.specs.Values.{f0}
 use Rattle.grid.proofs.Fold.{fold-ext}
 use Rattle.grid.specs.Plane.{plane}
 use Rattle.grid.proofs.Plane.{row-in}
-use Rattle.grid.proofs.Each.{keep-none}
 use Rattle.grid.specs.Rect.{Place, place}
-use Rattle.grid.proofs.Rect.{any-in, length-rect, Down, down-none, down-more, down-all}
+use Rattle.grid.proofs.Rect.{any-in, Down, down-none, down-more, down-all}
 use Rattle.grid.proofs.Rect.{Across, across-none, across-more, across-skip}
 use Rattle.grid.specs.Ways.{pixel, value}
 use Rattle.grid.specs.Over.{Listed, Onward}
@@ -36,7 +34,7 @@ use Rattle.crests.specs.Maximum.{entry, greater, greatestOf, maximum}
 use Rattle.verdict.specs.Window.{at, beaten, positives}
 use Rattle.crests.specs.Crests.{over, crest, Sought}
 use Rattle.crests.proofs.Passing.{sought-plain, not-worth}
-use Rattle.detect.specs.Corners.{candidates, floorOf, corners, stride, numbers}
+use Rattle.detect.specs.Corners.{floorOf, corners, stride, numbers}
 use Rattle.verdict.specs.Verdict.{firstFailing, isSaddle, isKept, verdict}
 use Rattle.verdict.specs.Judged.{judgedIn}
 use Rattle.verdict.specs.Room.{Cross}
@@ -226,6 +224,7 @@ module _ {s : Scan} {resp : List Float} {image : List ℕ} {y : ℕ} {mid : List
     {b : ℕ} (border : b ≡ borderIn s) where
   pub scan-none : Scanned s resp image y mid m mid m b
   scan-none =
+      let wider = f .judging .asked .wider in
       rw border (record { across = across-none _ _ _ _ _ y (omega arith) (f .above) (omega arith) (onward-none _ _ _ _ _ _); few = omega arith })
 
   module _ {out : List Float} {n x : ℕ} (c : Scanned s resp image y mid m out n x) where
@@ -263,17 +262,15 @@ pub record FoundTo (s : Scan) (resp : List Float) (image : List ℕ) (old out : 
   pub few : n ≤ 8192 * y
 
 module _ {s : Scan} {resp : List Float} {image : List ℕ} {old : List Float} where
-  pub found-none : {b : ℕ} → b ≡ borderIn s → borderIn s + borderIn s < s .h → FoundTo s resp image old old 0 b
+  pub found-none : {b : ℕ} → b ≡ borderIn s → 2 * borderIn s < s .h → FoundTo s resp image old old 0 b
   found-none e b = rw e (record { down = down-none _ _ _ _ _ (omega arith) (listed-none _ _ _ _); few = omega arith })
 
   module _ {out : List Float} {n y : ℕ} (c : FoundTo s resp image old out n y) where
-    pub finding : Judging s (length resp) (length image) → borderIn s + borderIn s < s .w → y < s .h - borderIn s
-        → Finding s y n (length resp) (length image)
-    finding j a b =
+    pub finding : Judging s (length resp) (length image) → y < s .h - borderIn s → Finding s y n (length resp) (length image)
+    finding j b =
         let l : y < s .h = omega arith in
         record {
           judging = j;
-          wider = a;
           above = c .down .least;
           below = omega arith;
           row = omega (arith, j .asked .response, row-in (s .w) l);
@@ -292,26 +289,6 @@ module _ {s : Scan} {resp : List Float} {image : List ℕ} {old : List Float} wh
     found-all b e =
         let l = down-all _ _ _ _ _ (c .down) b in
         record { count = rw e at (l .count); list = rw e at (l .fill) }
-
--- "W or H at most twice the border finds nothing"
-empty : {A : Type 0} (l : List A) → length l ≡ 0 → l ≡ []
-empty [] e = refl
-empty (a ∷ l) e = absurd (omega arith)
-
-too-small : (w h b : ℕ) → min w h ≤ 2 * b → candidates w h b ≡ []
-too-small w h b c = empty (candidates w h b) (length-rect b (w - b) b (h - b) ∙ none (decLe w (2 * b)))
-  where
-    none : Dec (w ≤ 2 * b) → (w - b - b) * (h - b - b) ≡ 0
-    none (yes k) = ap (λ (i : ℕ). i * (h - b - b)) (omega arith) ∙ zero-mul (h - b - b)
-    none (no k) = ap (λ (i : ℕ). (w - b - b) * i) (omega arith) ∙ mul-zero (w - b - b)
-
-pub none-found : {s : Scan} {resp : List Float} {image : List ℕ} {old : List Float} {b : ℕ} → b ≡ borderIn s → min (s .w) (s .h) ≤ 2 * b
-    → Found s resp image old 0 old
-unfolding corners
-none-found {s} {resp} {image} {old} e c =
-    let l = listed-none stride (numbersIn s resp) (λ p. true) old in
-    let z : candidates (s .w) (s .h) (borderIn s) ≡ [] = rw e at (too-small (s .w) (s .h) _ c) in
-    record { count = rw (z, keep-none); list = rw (z, keep-none) (rw keep-none at (l .fill)) }
 
 -- ---- what the scan goes by
 

@@ -7,19 +7,15 @@ use lib.Ieee.{Float, binary32, add, mul, ofInt}
 use Rattle.grid.specs.Each.{keep}
 use Rattle.grid.specs.Rect.{Place, rect}
 use Rattle.params.specs.declared.settings.RadonDetectorParams.{RadonDetectorParams}
-use Rattle.params.specs.Settings.{rayOf}
+use Rattle.params.specs.Settings.{borderOf}
 use Rattle.params.specs.Coordinates.{toInput}
 use Rattle.peak_fit.specs.PeakFit.{fitOf}
 use Rattle.verdict.specs.Window.{at}
 use Rattle.verdict.specs.Verdict.{isKept, verdict}
 use Rattle.crests.specs.Maximum.{maximum}
 
--- ---- "The border is ray + suppression radius + 1"
+-- ---- "Candidates inside go in row order": at least b from every edge
 
-abbrev pub borderOf : RadonDetectorParams → ℕ
-borderOf s = rayOf (s .«ray_radius») + s .«nms_radius» + 1
-
--- "Candidates inside go in row order": at least b from every edge. "W or H at most twice the border finds nothing": there are none then.
 abbrev pub candidates : ℕ → ℕ → ℕ → List Place
 candidates w h b = rect b (w - b) b (h - b)
 

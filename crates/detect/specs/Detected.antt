@@ -1,4 +1,4 @@
--- What `detect_peaks_from_radon` promises: the answer, and what the list holds at the end. Document 01's numbers, for a working size.
+-- What `detect_peaks_from_radon` promises: the answer, and what the list holds at the end. The documents' numbers, for a working size.
 use mathlib.Core.Bool.{_||_, cond}
 use Prim.Native.Nat.{ℕ, _*_, _/_, min}
 use mathlib.Core.List.{List}
@@ -23,10 +23,10 @@ workingRefusal w h =
     (cond (ltb 8388608 (w * h)) TooManyPixels
     Complete)
 
--- "The lowest number that applies is given": 2 and 4; 5 and 6, and 7 and 8 as for every call with settings; 9 response or image shorter than W·H
+-- "The lowest number that applies is given": 2 and 4; 5 and 6, and 7, 8 and 15 as for every call with settings; 9 response or image shorter than W·H
 unfoldable pub peaksRefusal : ℕ → ℕ → RadonDetectorParams → ℕ → Answer
 unfolding workingRefusal mapRefusal listRefusal roomRefusal
-peaksRefusal w h s room = orElse (workingRefusal w h) (orElse (mapRefusal s) (orElse (listRefusal s) (roomRefusal (w * h) room)))
+peaksRefusal w h s room = orElse (workingRefusal w h) (orElse (mapRefusal s) (orElse (listRefusal w h s) (roomRefusal (w * h) room)))
 
 abbrev pub refusalFor : RadonDetectorParams → ℕ → ℕ → List Float → List ℕ → Answer
 refusalFor s w h resp image = peaksRefusal w h s (min (length resp) (length image))

@@ -9,13 +9,13 @@ use Rattle.grid.specs.Rect.{Place, place, rect}
 use Rattle.grid.specs.Ways.{pixel, value}
 use Rattle.grid.specs.Over.{written, Onward}
 use Rattle.params.specs.declared.settings.RadonDetectorParams.{RadonDetectorParams}
-use Rattle.params.specs.Settings.{rayOf}
+use Rattle.params.specs.Settings.{rayOf, borderOf}
 use Rattle.verdict.specs.declared.Verdict.{Verdict}
 use Rattle.verdict.specs.declared.Scan.{Scan}
 use Rattle.saddle.specs.Saddle.{saddleOf}
 use Rattle.peak_fit.specs.PeakFit.{fitOf}
 use Rattle.crests.specs.Maximum.{entry}
-use Rattle.detect.specs.Corners.{borderOf, floorOf, corners, stride, inputAt, numbers}
+use Rattle.detect.specs.Corners.{floorOf, corners, stride, inputAt, numbers}
 use Rattle.verdict.specs.Verdict.{isKept, verdict}
 
 -- ---- what a scan goes by, and what that says of a place over the map and the image in two buffers
@@ -58,12 +58,14 @@ rowsAbove c y = rect (borderIn c) (c .w - borderIn c) (borderIn c) y
 
 -- ---- what is asked
 
--- sizes, settings and buffers that fit
+-- sizes, settings and buffers that fit, with candidates inside the border
 pub record Asked (s : RadonDetectorParams) (w h resp image : ℕ) : Type 0 where
   pub wide : w ≤ 8192
   pub high : h ≤ 8192
   pub ray : s .«ray_radius» ≤ 7
   pub suppression : s .«nms_radius» ≤ 32
+  pub wider : 2 * borderOf s < w
+  pub higher : 2 * borderOf s < h
   pub response : w * h ≤ resp
   pub working : w * h ≤ image
 
@@ -84,7 +86,6 @@ pub record Candidate (c : Scan) (x y resp image : ℕ) : Type 0 where
 -- y is a row of candidates, with n corners found above it
 pub record Finding (c : Scan) (y n resp image : ℕ) : Type 0 where
   pub judging : Judging c resp image
-  pub wider : borderIn c + borderIn c < c .w
   pub above : borderIn c ≤ y
   pub below : y + borderIn c < c .h
   pub row : y * c .w + c .w ≤ resp

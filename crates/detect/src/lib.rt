@@ -41,7 +41,7 @@ fn judge_call(w: usize, h: usize, params: RadonDetectorParams, room: usize) -> A
         return size;
     }
     let map = params::judge_map_settings(params);
-    let list = params::judge_list_settings(params);
+    let list = params::judge_list(w, h, params);
     let lent = params::judge_room(w * h, room);
     map.or_else(list.or_else(lent))
 }
@@ -57,6 +57,7 @@ fn full_or(found: usize, stored: usize) -> Answer
 }
 
 // The corners of a response map over its working image, both w wide and h high, three numbers a corner: x and y in input pixels, strength.
+// A map with no place inside the border is refused.
 pub fn detect_peaks_from_radon(
     response: &[f32],
     image: &[u8],

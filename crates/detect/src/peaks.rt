@@ -22,16 +22,9 @@ ghost use mathlib.Core.List.{[], _∷_};
 ghost use lib.ListN.{length};
 ghost use lib.Seq.{sets};
 ghost use Rattle.grid.specs.Rect.{place};
-ghost use Rattle.detect.specs.Corners.{borderOf, stride};
+ghost use Rattle.detect.specs.Corners.{stride};
 ghost use Rattle.verdict.specs.Room.{Cross};
 ghost use Rattle.detect.specs.Scan.{scanOf, floorIn, fittedAt, numbersIn, Judging, Candidate, Finding, NextInRow, Entered, RowFound, Found};
-
-// How far candidates stay from every edge: the window, the rays and one pixel for the fit lie inside.
-fn border(params: RadonDetectorParams) -> usize
-    ensures { λ r. ⌜ r ≡ borderOf params ⌝ }
-{
-    params.ray_radius_clamped() as usize + params.nms_radius as usize + 1
-}
 
 // Along one axis, a peak of value v at entry c and pixel `at`, in the input image: its offset is fitted to the entries `step` before and after.
 fn fitted(
@@ -127,7 +120,7 @@ fn find_in_row(
     requires { ⌜ Finding scan y n (length (now resp)) (length (now image)) ⌝ }
     ensures { λ r. ⌜ RowFound scan (now (resp .entry)) (now (image .entry)) y (now (list .entry)) n (now (list .exit)) r ⌝ }
 {
-    let b = border(scan.params);
+    let b = scan.params.border();
     let ex = scan.w - b;
     let mut count = n;
     let mut x = next_in_row(resp, scan, y, b, ex);
@@ -162,12 +155,8 @@ pub fn find_peaks(resp: &[f32], image: &[u8], scan: Scan, list: &mut [f32]) -> u
     requires { ⌜ scan .floor ≡ floorIn scan (now resp) ⌝ }
     ensures { λ n. ⌜ Found scan (now (resp .entry)) (now (image .entry)) (now (list .entry)) n (now (list .exit)) ⌝ }
 {
-    let b = border(scan.params);
-    let h = scan.h;
-    if lesser(scan.w, h) <= 2 * b {
-        return 0;
-    }
-    let ey = h - b;
+    let b = scan.params.border();
+    let ey = scan.h - b;
     let mut count: usize = 0;
     for y in b..ey {
         count = find_in_row(resp, image, scan, y, count, list);

@@ -19,10 +19,11 @@ use Rattle.grid.proofs.Rect.{length-rect}
 use Rattle.params.specs.declared.answers.Answer.the-variants.{NotFinite}
 use Rattle.params.specs.declared.settings.RadonDetectorParams.{RadonDetectorParams}
 use Rattle.params.specs.declared.answers.Outcome.{Outcome}
+use Rattle.params.specs.Settings.{borderOf}
 use Rattle.params.proofs.Accepted.{SizesPass, all-accepted}
 use Rattle.response.specs.Map.{roomOf, sideOf}
 use Rattle.response.proofs.Runs.{side-most}
-use Rattle.detect.specs.Corners.{borderOf, candidates, corners, stride}
+use Rattle.detect.specs.Corners.{candidates, corners, stride}
 use Rattle.radon.specs.Finder.{Buffers, Bytes}
 use Rattle.radon.proofs.Left.{Accepted, mapLeft, imageLeft, listLeft, runs, left-is}
 use Rattle.radon.proofs.Lists.{writtenBy}

@@ -1,19 +1,21 @@
--- What a call that is not refused has passed: each row of document 01's table, the other way round. Assumes nothing.
+-- What a call that is not refused has passed: each row of the table of answers, the other way round. Assumes nothing.
 use mathlib.Core.Path.{_≡_, refl, sym, ap, _∙_}
 use mathlib.Core.Bool.{Bool, true, false, _||_, cond, true≢false}
 use Prim.Native.Nat.{ℕ, _*_, _≤_, _<_}
+use native.Mathlib.Nat.{mul-le-mul}
 use native.Mathlib.Omega.{arith}
-use borrow.Author.Tests.{ltb-false, eqb-true, eq-eqb, ne-eqb, not-false}
+use borrow.Author.Tests.{le-ltb, ltb-false, leb-false, eqb-true, eq-eqb, ne-eqb, not-false}
 use lib.Dec.{T, ltb, eqb}
 use lib.Ieee.{Float, lt, le, isNan, ofBits}
 use Rattle.float.specs.Values.{f0, f1}
 use Rattle.float.proofs.Order.{le-of-not-lt}
 use Rattle.params.specs.declared.answers.Answer.{Answer}
-use Rattle.params.specs.declared.answers.Answer.the-variants.{Complete}
+use Rattle.params.specs.declared.answers.Answer.the-variants.{Complete, FrameTooSmall}
 use Rattle.params.specs.declared.settings.RadonDetectorParams.{RadonDetectorParams}
+use Rattle.params.specs.Settings.{borderOf}
 use Rattle.params.specs.Answers.{numberOf}
 use Rattle.params.specs.Refusals.{orElse, sideOver, pixelsOf, sizeRefusal, mapRefusal, listRefusal, roomRefusal}
-use Rattle.params.specs.Refusals.{stagesOf, refusalOf, mapRefusalOf}
+use Rattle.params.specs.Refusals.{workingOf, outOfRange, tooSmall, stagesOf, refusalOf, mapRefusalOf}
 
 pub record SizesPass (width height image up : ℕ) : Type 0 where
   pub wide : width ≤ 4096
@@ -25,10 +27,13 @@ pub record MapPasses (p : RadonDetectorParams) : Type 0 where
   pub ray : p .«ray_radius» ≤ 7
   pub blur : p .«response_blur_radius» ≤ 3
 
-pub record ListPasses (p : RadonDetectorParams) : Type 0 where
+-- w and h are the working sides
+pub record ListPasses (w h : ℕ) (p : RadonDetectorParams) : Type 0 where
   pub suppression : p .«nms_radius» ≤ 32
   pub least : T (le f0 (p .«threshold_rel»))
   pub most : T (le (p .«threshold_rel») f1)
+  pub wider : 2 * borderOf p < w
+  pub higher : 2 * borderOf p < h
 
 -- ---- one step of a chain
 
@@ -80,6 +85,10 @@ module _ (width height : ℕ) (short : sideOver width height ≡ false) where
       let sides = neither _ _ short in
       (ltb-false _ _ (sides .0), ltb-false _ _ (sides .1))
 
+  -- nor are the working sides, f being the factor
+  pub working-within : {f : ℕ} → f ≤ 2 → (f * width ≤ 8192) × (f * height ≤ 8192)
+  working-within two = (mul-le-mul two (sides-within .0), mul-le-mul two (sides-within .1))
+
   -- W·H is the number that the code has for it
   pub pixels-exact : (up : ℕ) {n : ℕ}
       → n ≡ cond (sideOver width height) 0 (pixelsOf width height up) → n ≡ pixelsOf width height up
@@ -122,17 +131,21 @@ number-one : isNan f1 ≡ false
 unfolding isNan ofBits
 number-one = refl
 
-pub list-passes : (p : RadonDetectorParams) → numberOf (listRefusal p) ≡ 0 → ListPasses p
+pub list-passes : (w h : ℕ) (p : RadonDetectorParams) → numberOf (listRefusal w h p) ≡ 0 → ListPasses w h p
 unfolding listRefusal
-list-passes p e =
+list-passes w h p e =
     let a = past _ _ _ refl e in
     let b = past _ _ _ refl (a .1) in
+    let c = past _ _ _ refl (b .1) in
     let number = neither _ _ (b .0) in
     let inside = neither _ _ (number .1) in
+    let sides = neither _ _ (c .0) in
     record {
       suppression = ltb-false _ _ (a .0);
       least = le-of-not-lt f0 (p .«threshold_rel») number-zero (number .0) (inside .0);
       most = le-of-not-lt (p .«threshold_rel») f1 (number .0) number-one (inside .1);
+      wider = leb-false _ _ (sides .0);
+      higher = leb-false _ _ (sides .1);
     }
 
 pub room-passes : (pixels room : ℕ) → numberOf (roomRefusal pixels room) ≡ 0 → pixels ≤ room
@@ -154,7 +167,7 @@ module _ (width height image : ℕ) (p : RadonDetectorParams) (room : ℕ) where
       ap (λ (n : ℕ). orElse (mapRefusal p) (orElse list (roomRefusal n room)))
       (pixels-exact width height (sides-pass width height image (p .«image_upsample») z) (p .«image_upsample») pixels))
 
-  -- the stages of both: what is said of the list's settings is a parameter
+  -- the stages of both: what is said for the list is a parameter
   stages-pass : (list : Answer) → numberOf (stagesOf width height image p list room) ≡ 0
       → SizesPass width height image (p .«image_upsample») × MapPasses p × (numberOf list ≡ 0)
       × (pixelsOf width height (p .«image_upsample») ≤ room)
@@ -175,10 +188,32 @@ module _ (width height image : ℕ) (p : RadonDetectorParams) (room : ℕ) where
       let s = stages-pass Complete e in
       (s .0, s .1, s .3)
 
+  -- 15 is given where none of 2 to 8 applies and a working side is at most twice the border: the room is not asked for
+  pub small-answered : SizesPass width height image (p .«image_upsample») → MapPasses p → p .«nms_radius» ≤ 32
+      → outOfRange (p .«threshold_rel») ≡ false
+      → tooSmall (workingOf width (p .«image_upsample»)) (workingOf height (p .«image_upsample»)) p ≡ true
+      → refusalOf width height image p room ≡ FrameTooSmall
+  unfolding refusalOf sizeRefusal mapRefusal listRefusal
+  small-answered sizes map suppression range small =
+      let up = p .«image_upsample» in
+      rw (
+        le-ltb 4096 width (sizes .wide),
+        le-ltb 4096 height (sizes .high),
+        eq-eqb image (width * height) (sizes .whole),
+        le-ltb 8388608 (pixelsOf width height up) (sizes .pixels),
+        le-ltb 7 (p .«ray_radius») (map .ray),
+        le-ltb 3 (p .«response_blur_radius») (map .blur),
+        le-ltb 32 (p .«nms_radius») suppression,
+        range,
+        small,
+      )
+
   pub all-accepted : numberOf (refusalOf width height image p room) ≡ 0
-      → SizesPass width height image (p .«image_upsample») × MapPasses p × ListPasses p
+      → SizesPass width height image (p .«image_upsample») × MapPasses p
+      × ListPasses (workingOf width (p .«image_upsample»)) (workingOf height (p .«image_upsample»)) p
       × (pixelsOf width height (p .«image_upsample») ≤ room)
   unfolding refusalOf
   all-accepted e =
-      let s = stages-pass (listRefusal p) e in
-      (s .0, s .1, list-passes p (s .2), s .3)
+      let up = p .«image_upsample» in
+      let s = stages-pass (listRefusal (workingOf width up) (workingOf height up) p) e in
+      (s .0, s .1, list-passes (workingOf width up) (workingOf height up) p (s .2), s .3)

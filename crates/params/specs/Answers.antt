@@ -1,4 +1,4 @@
--- Document 01, "What comes back" and "Frame file and printed list", and document 02's tickets from 16 on: the number of each
+-- Document 01, "What comes back" and "Frame file and printed list", and document 02's tickets from 15 on: the number of each
 -- answer.
 use Prim.Native.Nat.{ℕ}
 use Rattle.params.specs.declared.answers.Answer.{Answer}
@@ -21,6 +21,7 @@ numberOf answer.FileTooShort = 11
 numberOf answer.Version = 12
 numberOf answer.StatedLength = 13
 numberOf answer.Mode = 14
+numberOf answer.FrameTooSmall = 15
 numberOf answer.RecordLength = 16
 numberOf answer.RecordVersion = 17
 numberOf answer.CornerCount = 18

@@ -1,14 +1,14 @@
--- Document 01's table of answers: which refusal is given, "exactly when", the lowest number first. The chain stands
--- here and nowhere else.
+-- Document 01's table of answers, with document 02's 15: which refusal is given, "exactly when", the lowest number first,
+-- but 15 "after 8 and before 9". The chain stands here and nowhere else.
 use mathlib.Core.Bool.{Bool, not, _||_, cond}
 use Prim.Native.Nat.{ℕ, _*_}
-use lib.Dec.{ltb, eqb}
+use lib.Dec.{ltb, leb, eqb}
 use lib.Ieee.{Float, lt, isNan}
 use Rattle.float.specs.Values.{f0, f1}
 use Rattle.params.specs.declared.answers.Answer.{Answer}
 use Rattle.params.specs.declared.answers.Answer.the-variants as answer
 use Rattle.params.specs.declared.settings.RadonDetectorParams.{RadonDetectorParams}
-use Rattle.params.specs.Settings.{factorOf}
+use Rattle.params.specs.Settings.{factorOf, borderOf}
 use Rattle.params.specs.Answers.{numberOf}
 
 -- a where it refuses, and b where it does not
@@ -19,9 +19,13 @@ orElse a b = cond (eqb (numberOf a) 0) b a
 abbrev pub sideOver : ℕ → ℕ → Bool
 sideOver width height = ltb 4096 width || ltb 4096 height
 
--- W·H: "Working width W and height H are the input's times that factor"
+-- "Working width W and height H are the input's times that factor"
+abbrev pub workingOf : ℕ → ℕ → ℕ
+workingOf side up = factorOf up * side
+
+-- W·H
 abbrev pub pixelsOf : ℕ → ℕ → ℕ → ℕ
-pixelsOf width height up = factorOf up * width * (factorOf up * height)
+pixelsOf width height up = workingOf width up * workingOf height up
 
 -- 2 width or height over 4,096; 3 image length differs from width times height; 4 W·H over 8,388,608
 unfoldable pub sizeRefusal : ℕ → ℕ → ℕ → ℕ → Answer
@@ -42,18 +46,23 @@ mapRefusal p =
 abbrev pub outOfRange : Float → Bool
 outOfRange t = isNan t || (lt t f0 || lt f1 t)
 
--- 7 suppression radius over 32; 8 threshold NaN, below 0 or above 1
-unfoldable pub listRefusal : RadonDetectorParams → Answer
-listRefusal p =
+-- "working width or height is at most twice the border"
+abbrev pub tooSmall : ℕ → ℕ → RadonDetectorParams → Bool
+tooSmall w h p = leb w (2 * borderOf p) || leb h (2 * borderOf p)
+
+-- 7 suppression radius over 32; 8 threshold NaN, below 0 or above 1; 15 W or H at most twice the border
+unfoldable pub listRefusal : ℕ → ℕ → RadonDetectorParams → Answer
+listRefusal w h p =
     cond (ltb 32 (p .«nms_radius»)) answer.SuppressionRadius
     (cond (outOfRange (p .«threshold_rel»)) answer.Threshold
-    answer.Complete)
+    (cond (tooSmall w h p) answer.FrameTooSmall
+    answer.Complete))
 
 -- 9 a lent buffer other than the list is too short: room is the length of the shortest
 unfoldable pub roomRefusal : ℕ → ℕ → Answer
 roomRefusal pixels room = cond (ltb room pixels) answer.BufferTooShort answer.Complete
 
--- "The lowest number that applies is given": the stages in their order. `list` is what is said of the list's settings
+-- "The lowest number that applies is given": the stages in their order. `list` is what is said for the list
 abbrev pub stagesOf : ℕ → ℕ → ℕ → RadonDetectorParams → Answer → ℕ → Answer
 stagesOf width height image p list room =
     orElse (sizeRefusal width height image (p .«image_upsample»))
@@ -64,9 +73,11 @@ stagesOf width height image p list room =
 -- the whole table
 unfoldable pub refusalOf : ℕ → ℕ → ℕ → RadonDetectorParams → ℕ → Answer
 unfolding sizeRefusal mapRefusal listRefusal roomRefusal
-refusalOf width height image p room = stagesOf width height image p (listRefusal p) room
+refusalOf width height image p room =
+    let up = p .«image_upsample» in
+    stagesOf width height image p (listRefusal (workingOf width up) (workingOf height up) p) room
 
--- as far as it concerns the map: 2, 3, 4, 5, 6 and 9. Nothing is said of the list's settings
+-- as far as it concerns the map: 2, 3, 4, 5, 6 and 9. Nothing is said for the list, so frames too small for it are taken
 unfoldable pub mapRefusalOf : ℕ → ℕ → ℕ → RadonDetectorParams → ℕ → Answer
 unfolding sizeRefusal mapRefusal roomRefusal
 mapRefusalOf width height image p room = stagesOf width height image p answer.Complete room

@@ -1,6 +1,6 @@
--- Document 01, "Settings and sizes": what a factor or radius counts as, the mode by its number, and the defaults.
+-- Document 01, "Settings and sizes": what a factor or radius counts as, the border, the mode by its number, and the defaults.
 use mathlib.Core.Bool.{cond}
-use Prim.Native.Nat.{ℕ, max, min}
+use Prim.Native.Nat.{ℕ, _+_, max, min}
 use lib.Dec.{eqb}
 use lib.Ieee.{Float, binary32, ofBits}
 use Rattle.params.specs.declared.settings.PeakFitMode.the-variants.{Parabolic, Gaussian}
@@ -16,6 +16,10 @@ factorOf u = max 1 (min u 2)
 -- "Ray radius is 0 to 7, where 0 counts as 1"
 abbrev pub rayOf : ℕ → ℕ
 rayOf r = max 1 r
+
+-- "The border is ray + suppression radius + 1"
+abbrev pub borderOf : RadonDetectorParams → ℕ
+borderOf p = rayOf (p .«ray_radius») + p .«nms_radius» + 1
 
 -- "The mode is parabolic or Gaussian"; by its number, "mode (0 parabolic, 1 Gaussian)" and "14 mode above 1"
 abbrev pub modeNumbered : ℕ → NumberedMode

@@ -35,6 +35,8 @@ pub enum Answer {
     StatedLength,
     // 14: a mode above 1
     Mode,
+    // 15: a working side of at most twice the border
+    FrameTooSmall,
     // 16: a corner record shorter than its fields, or whose stated length is not its own
     RecordLength,
     // 17: a corner record of a version that is not known
@@ -70,6 +72,7 @@ impl Answer {
             Answer::Version => 12,
             Answer::StatedLength => 13,
             Answer::Mode => 14,
+            Answer::FrameTooSmall => 15,
             Answer::RecordLength => 16,
             Answer::RecordVersion => 17,
             Answer::CornerCount => 18,

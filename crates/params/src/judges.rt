@@ -1,10 +1,10 @@
-// The judges: which of the answers 2 to 9 a call gets, stage by stage. Each answers the lowest that applies.
+// The judges: which of the answers 2 to 9 and 15 a call gets, stage by stage. Each answers the first that applies.
 use crate::Answer;
 use crate::RadonDetectorParams;
 use crate::settings::clamped;
 ghost use mathlib.Core.Path.{_≡_};
 ghost use mathlib.Core.Bool.{cond};
-ghost use Rattle.params.specs.Refusals.{sideOver, pixelsOf, sizeRefusal, mapRefusal, listRefusal, roomRefusal};
+ghost use Rattle.params.specs.Refusals.{sideOver, pixelsOf, tooSmall, sizeRefusal, mapRefusal, listRefusal, roomRefusal};
 ghost use Rattle.params.specs.Refusals.{stagesOf, refusalOf, mapRefusalOf};
 
 const MAX_SIDE: usize = 4096;
@@ -61,9 +61,20 @@ pub fn judge_map_settings(p: RadonDetectorParams) -> Answer
     Answer::Complete
 }
 
-// Answers 7 and 8: the settings that only the list goes by.
-pub fn judge_list_settings(p: RadonDetectorParams) -> Answer
-    ensures { λ r. ⌜ r ≡ listRefusal p ⌝ }
+// Whether a working image of w by h has no place inside the border.
+fn too_small(w: usize, h: usize, p: RadonDetectorParams) -> bool
+    ensures { λ r. ⌜ r ≡ tooSmall w h p ⌝ }
+{
+    let most = 2 * p.border();
+    if w <= most {
+        return true;
+    }
+    h <= most
+}
+
+// Answers 7, 8 and 15: what only the list goes by, for a working image of w by h.
+pub fn judge_list(w: usize, h: usize, p: RadonDetectorParams) -> Answer
+    ensures { λ r. ⌜ r ≡ listRefusal w h p ⌝ }
 {
     if p.nms_radius > 32 {
         return Answer::SuppressionRadius;
@@ -76,6 +87,9 @@ pub fn judge_list_settings(p: RadonDetectorParams) -> Answer
     }
     if p.threshold_rel > 1.0 {
         return Answer::Threshold;
+    }
+    if too_small(w, h, p) {
+        return Answer::FrameTooSmall;
     }
     Answer::Complete
 }
@@ -90,8 +104,8 @@ pub fn judge_room(pixels: usize, room: usize) -> Answer
     Answer::Complete
 }
 
-// The stages joined, in the table's order; `list` is what is said of the list's settings. Here and below `n` is the
-// image's length, and `cap` that of the shortest lent buffer.
+// The stages joined, in the table's order; `list` is what is said for the list. Here and below `n` is the image's length,
+// and `cap` that of the shortest lent buffer.
 fn judge_stages(
     w: usize,
     h: usize,
@@ -108,16 +122,22 @@ fn judge_stages(
     size.or_else(map.or_else(list.or_else(lent)))
 }
 
-// A call of the map: 2, 3, 4, 5, 6 and 9, the lowest that applies. What only the list goes by is not looked at.
+// A call of the map: 2, 3, 4, 5, 6 and 9, the lowest that applies. What only the list goes by is not looked at, so that
+// frames too small for a list are taken.
 pub fn judge_map_call(w: usize, h: usize, n: usize, p: RadonDetectorParams, cap: usize) -> Answer
     ensures { λ r. ⌜ r ≡ mapRefusalOf w h n p cap ⌝ }
 {
     judge_stages(w, h, n, p, Answer::Complete, cap)
 }
 
-// A call of the finder: 2 to 9, the lowest that applies.
+// A call of the finder: 2 to 8, 15 and 9, the first that applies. A side that is too long is refused before anyone asks for
+// its working pixels, so that no product is too large.
 pub fn judge_finder_call(w: usize, h: usize, n: usize, p: RadonDetectorParams, cap: usize) -> Answer
     ensures { λ r. ⌜ r ≡ refusalOf w h n p cap ⌝ }
 {
-    judge_stages(w, h, n, p, judge_list_settings(p), cap)
+    if side_over(w, h) {
+        return Answer::SideTooLong;
+    }
+    let factor = clamped(p.image_upsample) as usize;
+    judge_stages(w, h, n, p, judge_list(factor * w, factor * h, p), cap)
 }

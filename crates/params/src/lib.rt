@@ -9,7 +9,7 @@ pub use answers::Outcome;
 pub use coordinates::Input;
 pub use coordinates::Working;
 pub use judges::judge_finder_call;
-pub use judges::judge_list_settings;
+pub use judges::judge_list;
 pub use judges::judge_map_call;
 pub use judges::judge_map_settings;
 pub use judges::judge_room;

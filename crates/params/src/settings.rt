@@ -1,7 +1,7 @@
 // The settings of a call, with their defaults, and what a number outside their range counts as.
 use crate::Answer;
 ghost use mathlib.Core.Path.{_≡_};
-ghost use Rattle.params.specs.Settings.{defaults, factorOf, rayOf, modeNumbered};
+ghost use Rattle.params.specs.Settings.{defaults, factorOf, rayOf, borderOf, modeNumbered};
 
 // How a peak is fitted between pixels.
 pub enum PeakFitMode {
@@ -88,6 +88,13 @@ impl RadonDetectorParams {
         } else {
             self.ray_radius
         }
+    }
+
+    // How far candidates stay from every edge: the window, the rays and one pixel for the fit lie inside.
+    pub fn border(self) -> usize
+        ensures { λ r. ⌜ r ≡ borderOf self ⌝ }
+    {
+        self.ray_radius_clamped() as usize + self.nms_radius as usize + 1
     }
 }
 

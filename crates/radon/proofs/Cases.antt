@@ -40,16 +40,19 @@ module _ (w h image : ℕ) (p : RadonDetectorParams) (room : ℕ) (e : numberOf 
   abbrev sizes : Answer
   sizes = sizeRefusal w h image (p .«image_upsample»)
 
+  abbrev list : Answer
+  list = listRefusal (sideOf w p) (sideOf h p) p
+
   abbrev last : Answer
   last = roomRefusal (pixelsOf w h (p .«image_upsample»)) room
 
   -- each stage of the table passes
-  pub stages : (numberOf sizes ≡ 0) × (numberOf (mapRefusal p) ≡ 0) × (numberOf (listRefusal p) ≡ 0) × (numberOf last ≡ 0)
+  pub stages : (numberOf sizes ≡ 0) × (numberOf (mapRefusal p) ≡ 0) × (numberOf list ≡ 0) × (numberOf last ≡ 0)
   unfolding refusalOf
   stages =
-      let a = both-pass sizes (orElse (mapRefusal p) (orElse (listRefusal p) last)) e in
-      let b = both-pass (mapRefusal p) (orElse (listRefusal p) last) (a .1) in
-      let c = both-pass (listRefusal p) last (b .1) in
+      let a = both-pass sizes (orElse (mapRefusal p) (orElse list last)) e in
+      let b = both-pass (mapRefusal p) (orElse list last) (a .1) in
+      let c = both-pass list last (b .1) in
       (a .0, b .0, c .0, c .1)
 
   -- so the map's table does
@@ -76,9 +79,9 @@ module _ (w h image : ℕ) (p : RadonDetectorParams) (room : ℕ) (e : numberOf 
   unfolding peaksRefusal
   peaks-zero have l =
       let end = roomRefusal (sideOf w p * sideOf h p) have in
-      both-zero (workingRefusal (sideOf w p) (sideOf h p)) (orElse (mapRefusal p) (orElse (listRefusal p) end)) working-zero
-      (both-zero (mapRefusal p) (orElse (listRefusal p) end) (stages .1)
-      (both-zero (listRefusal p) end (stages .2) (room-zero (sideOf w p * sideOf h p) have l)))
+      both-zero (workingRefusal (sideOf w p) (sideOf h p)) (orElse (mapRefusal p) (orElse list end)) working-zero
+      (both-zero (mapRefusal p) (orElse list end) (stages .1)
+      (both-zero list end (stages .2) (room-zero (sideOf w p * sideOf h p) have l)))
 
 -- ---- what the map's entry leaves, for the list
 

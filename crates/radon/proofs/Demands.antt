@@ -2,9 +2,9 @@
 -- raised frames. They speak of what a call leaves: by its contract `radon_corners_u8` answers `outcomeOf img w h p b` and leaves the buffers
 -- `buffersOf img w h p b` (specs/Finder), for every image img and sides w, h, all settings p and all buffers b. Left.antt names what is left,
 -- and Lists.antt has what is said of a list: `ListIs`, `Filtered`, `Opens`. Assumes nothing.
-use mathlib.Core.Path.{_≡_, refl, _∙_}
+use mathlib.Core.Path.{_≡_, refl, sym, ap, _∙_}
 use mathlib.Core.Logic.{_⊎_, inl, inr}
-use mathlib.Core.Bool.{false}
+use mathlib.Core.Bool.{true, false}
 use mathlib.Core.List.{List}
 use Prim.Native.Nat.{ℕ, _+_, _*_, _/_, _%_, _≤_, _<_}
 use native.Mathlib.Omega.{arith}
@@ -20,8 +20,11 @@ use Rattle.scalar.specs.Log.{logOf, terms, high, lowest, highest, Near}
 use Rattle.scalar.specs.declared.Log.the-variants.{Value}
 use Rattle.scalar.proofs.Facts.{log-near, log-inside}
 use Rattle.params.specs.declared.settings.RadonDetectorParams.{RadonDetectorParams}
-use Rattle.params.specs.Settings.{factorOf, rayOf}
+use Rattle.params.specs.declared.answers.Answer.the-variants.{FrameTooSmall}
+use Rattle.params.specs.Settings.{factorOf, rayOf, borderOf}
 use Rattle.params.specs.Answers.{numberOf, refused}
+use Rattle.params.specs.Refusals.{outOfRange, tooSmall}
+use Rattle.params.proofs.Accepted.{SizesPass, MapPasses, all-accepted, small-answered}
 use Rattle.response.specs.Map.{roomOf, sideOf}
 use Rattle.upsample.specs.Kernel.{quarter, near}
 use Rattle.rays.specs.Response.{raySpread}
@@ -50,6 +53,21 @@ module _ (img : List ℕ) (w h : ℕ) (p : RadonDetectorParams) (b : Buffers) wh
       → (outcomeOf img w h p b ≡ refused (answered img w h p b)) × (buffersOf img w h p b ≡ b)
   unfolding outcomeOf buffersOf
   refusal-leaves-all z = rw (ne-eqb (numberOf (answered img w h p b)) 0 z) (refl, refl)
+
+  -- "A frame whose working width or height is at most twice the border shall be refused, sides of 0 included", where none of 2 to 8 applies and
+  -- whatever is lent, so before 9; and what is accepted is larger
+  pub small-frame-refused : SizesPass w h (length img) (p .«image_upsample») → MapPasses p → p .«nms_radius» ≤ 32
+      → outOfRange (p .«threshold_rel») ≡ false → tooSmall (sideOf w p) (sideOf h p) p ≡ true
+      → (outcomeOf img w h p b ≡ refused FrameTooSmall) × (buffersOf img w h p b ≡ b)
+  small-frame-refused sizes map suppression range small =
+      let is : answered img w h p b ≡ FrameTooSmall = small-answered w h (length img) p (roomOf (b .map)) sizes map suppression range small in
+      let r = refusal-leaves-all (λ z. let n : _≡_ {A = ℕ} 15 0 = sym (ap numberOf is) ∙ z in absurd (omega arith)) in
+      (r .0 ∙ ap refused is, r .1)
+
+  pub accepted-is-larger : Accepted img w h p b → (2 * borderOf p < sideOf w p) × (2 * borderOf p < sideOf h p)
+  accepted-is-larger z =
+      let l = all-accepted w h (length img) p (roomOf (b .map)) z .2 in
+      (l .wider, l .higher)
 
   -- "Entries beyond stay"
   pub map-beyond-stays : Accepted img w h p b → Stays (pixels w h p) (p .«response_blur_radius») (b .map) ((buffersOf img w h p b) .map)

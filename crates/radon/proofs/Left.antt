@@ -27,7 +27,7 @@ use Rattle.detect.specs.Corners.{numbers, stride}
 use Rattle.radon.specs.Finder.{Buffers, Bytes, answered, found, buffersOf}
 use Rattle.radon.proofs.Cases.{runs-by, map-at, work-at}
 
--- none of the refusals 2 to 9 applies: the answer is 0 or 1
+-- none of the refusals 2 to 9 and 15 applies: the answer is 0 or 1. So W and H are above twice the border
 abbrev pub Accepted : List ℕ → ℕ → ℕ → RadonDetectorParams → Buffers → Type 0
 Accepted img w h p b = numberOf (answered img w h p b) ≡ 0
 

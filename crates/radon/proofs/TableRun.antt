@@ -1,5 +1,5 @@
--- Document 01's "Run" numbers that the definitions decide, as one claim: what the table of answers says, two frames without a corner, and the
--- frame's own corner. Assumes nothing.
+-- Document 01's "Run" numbers that the definitions decide, and document 02's of frames too small to judge, as one claim: what the table of answers
+-- says, a frame without a corner, and the frame's own corner. Assumes nothing.
 use mathlib.Core.Path.{_≡_, refl}
 use mathlib.Core.List.{List, [], _∷_}
 use Prim.Native.Nat.{ℕ, _*_}
@@ -15,7 +15,7 @@ use Rattle.params.specs.declared.settings.PeakFitMode.the-variants.{Parabolic}
 use Rattle.params.specs.declared.settings.RadonDetectorParams.{RadonDetectorParams}
 use Rattle.params.specs.Coordinates.{toInput}
 use Rattle.params.specs.Answers.{numberOf}
-use Rattle.params.specs.Refusals.{sizeRefusal, mapRefusal, listRefusal, roomRefusal, refusalOf}
+use Rattle.params.specs.Refusals.{sizeRefusal, mapRefusal, listRefusal, roomRefusal, refusalOf, mapRefusalOf}
 use Rattle.upsample.specs.Upsample.{workAt}
 use Rattle.rays.specs.Response.{raySpread, square, responseAt}
 use Rattle.blur.specs.Blur.{blurAt}
@@ -56,6 +56,14 @@ framed = settings 1 0 1 fraction
 abbrev pub answerTo : ℕ → ℕ → RadonDetectorParams → ℕ
 answerTo w h p = numberOf (refusalOf w h (w * h) p (sideOf w p * sideOf h p))
 
+-- the same of the map's own entry
+abbrev pub mapAnswerTo : ℕ → ℕ → RadonDetectorParams → ℕ
+mapAnswerTo w h p = numberOf (mapRefusalOf w h (w * h) p (sideOf w p * sideOf h p))
+
+-- "radii 7, 3, 32": the border is 40
+abbrev widest : RadonDetectorParams
+widest = settings 7 3 32 fraction
+
 -- the numbers of the corners in the frame's first w columns and h rows, by their patterns
 abbrev pub listed : ℕ → ℕ → RadonDetectorParams → List ℕ
 listed w h p = each (λ v. toBits binary32 v ∷ []) (each (numbers p (mapOf frame w h p)) (found frame w h p))
@@ -66,17 +74,27 @@ computed =
     -- 4,096 by 2,048 and 4,096 by 2,049, at factor 1
     answerTo 4096 2048 framed ∷ answerTo 4096 2049 framed
     -- radii 7, 3, 32; then 8, 4, 33, one at a time
-    ∷ answerTo 7 7 (settings 7 3 32 fraction)
-    ∷ answerTo 7 7 (settings 8 3 32 fraction) ∷ answerTo 7 7 (settings 7 4 32 fraction) ∷ answerTo 7 7 (settings 7 3 33 fraction)
+    ∷ answerTo 81 81 widest
+    ∷ answerTo 81 81 (settings 8 3 32 fraction) ∷ answerTo 81 81 (settings 7 4 32 fraction) ∷ answerTo 81 81 (settings 7 3 33 fraction)
     -- a threshold of NaN
     ∷ answerTo 7 7 (settings 1 0 1 0x7fc0_0000)
-    -- how many numbers the list has for the frame cut to 6 by 6, and at threshold 1.0
-    ∷ length (listed 6 6 framed)
+    -- the frame cut to 6 by 6, and by one side alone; sides of 0; a side of 80 at the widest radii; 3 by 4 and 4 by 4, whose working sides are doubled
+    ∷ answerTo 6 6 framed ∷ answerTo 6 7 framed ∷ answerTo 7 6 framed
+    ∷ answerTo 0 0 framed ∷ answerTo 0 7 framed ∷ answerTo 7 0 framed
+    ∷ answerTo 80 81 widest ∷ answerTo 81 80 widest
+    ∷ answerTo 3 4 (parabolic 1 2 0 fraction 1 2) ∷ answerTo 4 4 (parabolic 1 2 0 fraction 1 2)
+    -- ray 0 counts as 1
+    ∷ answerTo 6 6 (settings 0 0 1 fraction) ∷ answerTo 7 7 (settings 0 0 1 fraction)
+    -- 6 by 6 with a threshold of NaN, and with no room; 7 by 7 with no room
+    ∷ answerTo 6 6 (settings 1 0 1 0x7fc0_0000) ∷ numberOf (refusalOf 6 6 36 framed 0) ∷ numberOf (refusalOf 7 7 49 framed 0)
+    -- the map's own entry, on 6 by 6 and on sides of 0
+    ∷ mapAnswerTo 6 6 framed ∷ mapAnswerTo 0 0 framed
+    -- how many numbers the list has at threshold 1.0
     ∷ length (listed 7 7 (settings 1 0 1 0x3f80_0000))
     -- the frame's own list
     ∷ listed 7 7 framed
 
--- what document 01 states
+-- what the documents state
 abbrev pub stated : List ℕ
 stated =
     -- passes, answers 4
@@ -86,14 +104,24 @@ stated =
     ∷ 5 ∷ 6 ∷ 7
     -- 8
     ∷ 8
-    -- finds none, finds none
-    ∷ 0
+    -- 15, but for 4 by 4, which passes
+    ∷ 15 ∷ 15 ∷ 15
+    ∷ 15 ∷ 15 ∷ 15
+    ∷ 15 ∷ 15
+    ∷ 15 ∷ 0
+    -- 15, passes
+    ∷ 15 ∷ 0
+    -- "after 8 and before 9"
+    ∷ 8 ∷ 15 ∷ 9
+    -- takes both
+    ∷ 0 ∷ 0
+    -- finds none
     ∷ 0
     -- "40400000 40400000 481C4000"
     ∷ 0x4040_0000 ∷ 0x4040_0000 ∷ 0x481c_4000 ∷ []
 
 pub Run : computed ≡ stated
-unfolding refusalOf sizeRefusal mapRefusal listRefusal roomRefusal isNan
+unfolding refusalOf mapRefusalOf sizeRefusal mapRefusal listRefusal roomRefusal isNan
     found corners verdict floorOf maximum plane fold beaten positives any count keep each rect line range from
     mapAt rawAt workAt blurAt responseAt square raySpread ray frame
     saddleAt saddleOf disk rootOf numbers inputAt toInput fitOf

@@ -1,4 +1,4 @@
--- What the finder promises: document 01's table of answers, the map and the list put together, in one answer and one equation of all eight buffers.
+-- What the finder promises: the table of answers, the map and the list put together, in one answer and one equation of all eight buffers.
 use mathlib.Core.Bool.{cond}
 use mathlib.Core.List.{List}
 use Prim.Native.Nat.{ℕ, _/_, _<_}
@@ -30,7 +30,7 @@ lent working row col falling rising response scratch list =
 abbrev pub Bytes : List ℕ → Type 0
 Bytes img = (i : ℕ) → getD img i 0 < 256
 
--- the table of answers: 2 to 9, the lowest first; 9 is not judged on the list
+-- the table of answers: 2 to 8, 15 and 9, the first that applies; 9 is not judged on the list
 abbrev pub answered : List ℕ → ℕ → ℕ → RadonDetectorParams → Buffers → Answer
 answered img w h p b = refusalOf w h (length img) p (roomOf (b .map))
 

@@ -7,6 +7,7 @@ use response::radon_response_u8;
 use sizes::lesser;
 
 // Each buffer but the list needs an entry for every work pixel; the list takes three numbers a corner: x, y, strength.
+// A frame with no place inside the border is refused: it is not one without corners.
 pub fn radon_corners_u8(
     img: &[u8],
     w: usize,

@@ -58,7 +58,7 @@ fn report(s: &[u8], walk: Walk, values: usize, arches: &[usize; 32], cameras: &[
     tell::each(b"arches with a camera count of ", arches, 2, 9);
     tell::say(b"arches answered 21", arches[REFUSED]);
     tell::say(b"cameras", cameras[ALL]);
-    tell::each(b"of these answered ", cameras, 0, 15);
+    tell::each(b"of these answered ", cameras, 0, 16);
     tell::say(b"of these held to a single call", cameras[SINGLE]);
     tell::say(b"corners that they found", cameras[FOUND]);
 }

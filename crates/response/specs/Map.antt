@@ -13,7 +13,7 @@ use Rattle.params.specs.declared.answers.Answer.{Answer}
 use Rattle.params.specs.declared.answers.Answer.the-variants.{Complete}
 use Rattle.params.specs.Settings.{factorOf, rayOf}
 use Rattle.params.specs.Answers.{numberOf}
-use Rattle.params.specs.Refusals.{mapRefusalOf}
+use Rattle.params.specs.Refusals.{workingOf, mapRefusalOf}
 use Rattle.upsample.specs.Upsample.{workAt}
 use Rattle.cumsums.specs.Tables.{tableOf}
 use Rattle.rays.specs.Response.{responseAt}
@@ -80,7 +80,7 @@ mappedBy factor ray blur f w h b =
 -- ---- by the settings
 
 abbrev pub sideOf : ℕ → RadonDetectorParams → ℕ
-sideOf n p = factorOf (p .«image_upsample») * n
+sideOf n p = workingOf n (p .«image_upsample»)
 
 abbrev pub workOf : (ℕ → ℕ → ℕ) → ℕ → ℕ → RadonDetectorParams → ℕ → ℕ → ℕ
 workOf f w h p = workAt (factorOf (p .«image_upsample»)) f w h
@@ -93,6 +93,7 @@ mapped f w h p b = mappedBy (factorOf (p .«image_upsample»)) (rayOf (p .«ray_
 
 -- ---- what `radon_response_u8` promises
 
+-- 2, 3, 4, 5, 6 and 9: a frame that is too small for a list, 15 there, has its map
 abbrev pub answered : List ℕ → ℕ → ℕ → RadonDetectorParams → Buffers → Answer
 answered img w h p b = mapRefusalOf w h (length img) p (roomOf b)
 

@@ -27,6 +27,7 @@ fn shortest(i: usize, a: usize, b: usize, c: usize, d: usize, r: usize, s: usize
 }
 
 // The dense response of an image, over buffers that the caller lends: each needs an entry for every working pixel.
+// A frame that is too small for a list, sides of 0 included, is taken.
 pub fn radon_response_u8(
     img: &[u8],
     w: usize,

@@ -77,7 +77,7 @@ mapReported number w h = record { number = number; w = w; h = h }
 abbrev pub mapTold : Mapped → MapTold
 mapTold m = mapReported (numberOf (m .answer)) (m .w) (m .h)
 
--- ---- what a call comes to: the finder's or the list's own, or answer 14, which comes before 2 to 9, with zeros, and "no buffer changes"
+-- ---- what a call comes to: the finder's or the list's own, or answer 14, which comes before 2 to 9 and 15, with zeros, and "no buffer changes"
 
 abbrev pub calledOutcome : Settings → List ℕ → ℕ → ℕ → Buffers → Outcome
 calledOutcome (Given p) img w h b = outcomeOf img w h p b

@@ -38,8 +38,8 @@ returns c = stage-refuses _ _ (c .before .before .judge-working-size .ensures) (
 judge-map-settings-requires : tie.Need-judge-map-settings-requires
 judge-map-settings-requires c κs = search needs
 
-judge-list-settings-requires : tie.Need-judge-list-settings-requires
-judge-list-settings-requires c κs = search needs
+judge-list-requires : tie.Need-judge-list-requires
+judge-list-requires c κs = search needs
 
 mul-judge-room : tie.Need-mul-judge-room
 mul-judge-room c =
@@ -62,7 +62,7 @@ returns-2 c =
     let s = passed j in
     stage-passes _ _ (sized s .judge-working-size .ensures) (s .before .number .ensures) (s .if1 .left)
     (stages-joined (j .before .before .judge-map-settings .ensures)
-    (stages-joined (j .before .judge-list-settings .ensures) (j .judge-room .ensures) (c .before .or-else .ensures))
+    (stages-joined (j .before .judge-list .ensures) (j .judge-room .ensures) (c .before .or-else .ensures))
     (c .or-else2 .ensures))
 
 pub judge-call-spec : {M : Type 1} → statement M
@@ -73,7 +73,7 @@ judge-call-spec =
     number-requires
     returns
     judge-map-settings-requires
-    judge-list-settings-requires
+    judge-list-requires
     mul-judge-room
     judge-room-requires
     or-else-requires

@@ -1,16 +1,16 @@
 -- `detect::peaks::find_peaks` meets its contract. The invariant is `FoundTo`: what is found in the rows above. Assumes nothing.
 use Prim.Native.Nat.{_-_}
 use native.Mathlib.Omega.{arith}
-use Rattle.detect.proofs.Scanning.{FoundTo, found-none, found-more, found-all, none-found, finding}
+use Rattle.detect.proofs.Scanning.{FoundTo, found-none, found-more, found-all, finding}
 use borrow.Author.Needs.{needs}
 use Rattle.detect.proofs.peaks.find_peaks.Statement.{statement}
 use Rattle.detect.proofs.peaks.find_peaks.Tie as tie
 
 abbrev Inv-loop : tie.InvT-loop
-Inv-loop resp image scan list₀ b h ey count₀ y₀ list count y = FoundTo scan resp image list₀ list count y
+Inv-loop resp image scan list₀ b ey count₀ y₀ list count y = FoundTo scan resp image list₀ list count y
 
 abbrev μ-loop : tie.MeasureT-loop
-μ-loop resp image scan list₀ b h ey count₀ y₀ list count y = ey - y
+μ-loop resp image scan list₀ b ey count₀ y₀ list count y = ey - y
 
 -- from the border back to the start
 abbrev start : tie.After-border Inv-loop μ-loop → tie.Start Inv-loop μ-loop
@@ -18,30 +18,21 @@ start c = c .before .before .before .before
 
 -- from the loop back to the border
 abbrev bordered : tie.At-loop Inv-loop μ-loop → tie.After-border Inv-loop μ-loop
-bordered c = c .before .before .before
+bordered c = c .before .before
 
 border-requires : tie.Need-border-requires Inv-loop μ-loop
 border-requires c κs = search needs
 
-lesser-requires : tie.Need-lesser-requires Inv-loop μ-loop
-lesser-requires c κs = search needs
-
-mul-if1 : tie.Need-mul-if1 Inv-loop μ-loop
-mul-if1 c = omega arith
-
-returns : tie.Need-returns Inv-loop μ-loop
-returns c = none-found (c .before .before .border .ensures) (omega (arith, c .before .lesser .ensures))
-
 sub-ey : tie.Need-sub-ey Inv-loop μ-loop
-sub-ey c = omega arith
+sub-ey c = omega (arith, start (c .before) .pre .0 .asked .higher)
 
 loop-holds : tie.Need-loop-holds Inv-loop μ-loop
-loop-holds c = found-none (c .before .before .border .ensures) (omega (arith, c .before .lesser .ensures))
+loop-holds c = found-none (c .before .border .ensures) (start (c .before) .pre .0 .asked .higher)
 
 find-in-row-requires : tie.Need-find-in-row-requires Inv-loop μ-loop
 find-in-row-requires c κs =
     let l = c .before .before in
-    finding (l .loop .inv) (start (bordered l) .pre .0) (omega arith) (omega arith)
+    finding (l .loop .inv) (start (bordered l) .pre .0) (omega arith)
 
 add-y : tie.Need-add-y Inv-loop μ-loop
 add-y c = omega arith
@@ -58,8 +49,8 @@ loop-again c =
 same-length : tie.Need-same-length Inv-loop μ-loop
 same-length c = c .before .loop .inv .down .holds .long
 
-returns-2 : tie.Need-returns-2 Inv-loop μ-loop
-returns-2 c =
+returns : tie.Need-returns Inv-loop μ-loop
+returns c =
     let l = c .before in
     found-all (l .loop .inv) (omega arith) (start (bordered l) .pre .1)
 
@@ -70,9 +61,6 @@ find-peaks-spec =
     Inv-loop
     μ-loop
     border-requires
-    lesser-requires
-    mul-if1
-    returns
     sub-ey
     loop-holds
     find-in-row-requires
@@ -80,4 +68,4 @@ find-peaks-spec =
     loop-less
     loop-again
     same-length
-    returns-2)
+    returns)
