@@ -155,8 +155,9 @@ pub fn find_peaks(resp: &[f32], image: &[u8], scan: Scan, list: &mut [f32]) -> u
     requires { ⌜ scan .floor ≡ floorIn scan (now resp) ⌝ }
     ensures { λ n. ⌜ Found scan (now (resp .entry)) (now (image .entry)) (now (list .entry)) n (now (list .exit)) ⌝ }
 {
+    let h = scan.h;
     let b = scan.params.border();
-    let ey = scan.h - b;
+    let ey = h - b;
     let mut count: usize = 0;
     for y in b..ey {
         count = find_in_row(resp, image, scan, y, count, list);

@@ -7,32 +7,28 @@ use Rattle.detect.proofs.peaks.find_peaks.Statement.{statement}
 use Rattle.detect.proofs.peaks.find_peaks.Tie as tie
 
 abbrev Inv-loop : tie.InvT-loop
-Inv-loop resp image scan list₀ b ey count₀ y₀ list count y = FoundTo scan resp image list₀ list count y
+Inv-loop resp image scan list₀ h b ey count₀ y₀ list count y = FoundTo scan resp image list₀ list count y
 
 abbrev μ-loop : tie.MeasureT-loop
-μ-loop resp image scan list₀ b ey count₀ y₀ list count y = ey - y
+μ-loop resp image scan list₀ h b ey count₀ y₀ list count y = ey - y
 
 -- from the border back to the start
 abbrev start : tie.After-border Inv-loop μ-loop → tie.Start Inv-loop μ-loop
 start c = c .before .before .before .before
 
--- from the loop back to the border
-abbrev bordered : tie.At-loop Inv-loop μ-loop → tie.After-border Inv-loop μ-loop
-bordered c = c .before .before
-
 border-requires : tie.Need-border-requires Inv-loop μ-loop
 border-requires c κs = search needs
 
 sub-ey : tie.Need-sub-ey Inv-loop μ-loop
-sub-ey c = omega (arith, start (c .before) .pre .0 .asked .higher)
+sub-ey c = omega (arith, start c .pre .0 .asked .higher)
 
 loop-holds : tie.Need-loop-holds Inv-loop μ-loop
-loop-holds c = found-none (c .before .border .ensures) (start (c .before) .pre .0 .asked .higher)
+loop-holds c = found-none (c .border .ensures) (start c .pre .0 .asked .higher)
 
 find-in-row-requires : tie.Need-find-in-row-requires Inv-loop μ-loop
 find-in-row-requires c κs =
     let l = c .before .before in
-    finding (l .loop .inv) (start (bordered l) .pre .0) (omega arith)
+    finding (l .loop .inv) (start (l .before) .pre .0) (omega arith)
 
 add-y : tie.Need-add-y Inv-loop μ-loop
 add-y c = omega arith
@@ -44,7 +40,7 @@ loop-again : tie.Need-loop-again Inv-loop μ-loop
 loop-again c =
     let r = c .before .before in
     let l = r .before .before .before in
-    found-more (l .loop .inv) (start (bordered l) .pre .0 .asked .wide) (omega arith) (r .find-in-row .ensures)
+    found-more (l .loop .inv) (start (l .before) .pre .0 .asked .wide) (omega arith) (r .find-in-row .ensures)
 
 same-length : tie.Need-same-length Inv-loop μ-loop
 same-length c = c .before .loop .inv .down .holds .long
@@ -52,7 +48,7 @@ same-length c = c .before .loop .inv .down .holds .long
 returns : tie.Need-returns Inv-loop μ-loop
 returns c =
     let l = c .before in
-    found-all (l .loop .inv) (omega arith) (start (bordered l) .pre .1)
+    found-all (l .loop .inv) (omega arith) (start (l .before) .pre .1)
 
 pub find-peaks-spec : {M : Type 1} → statement M
 find-peaks-spec =
