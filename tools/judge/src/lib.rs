@@ -19,10 +19,10 @@ pub mod printed;
 pub mod random;
 pub mod upsampled;
 
-pub use answers::{accepted, refusal, Room};
+pub use answers::{accepted, map_refusal, refusal, Room, TOO_SMALL};
 pub use arch::{dues, made_arch};
 pub use frame::{document_frame, split, Frame};
 pub use maker::{damaged, made, make, Made, Sizes};
-pub use outcome::{run, sums, Detector, Found, Outcome};
+pub use outcome::{mapped, run, sums, Detector, Found, Mapped, Outcome};
 pub use pictures::{Kind, KINDS};
 pub use printed::{list, printed, printed_by};

@@ -2,10 +2,10 @@
 
 use std::collections::BTreeMap;
 
-use crate::answers::{accepted, refusal, Room};
+use crate::answers::{accepted, map_refusal, refusal, Room, TOO_SMALL};
 use crate::frame::{document_frame, Frame};
 use crate::maker::{damaged, made, Made, Sizes};
-use crate::outcome::{run, Outcome};
+use crate::outcome::{mapped, run, Mapped, Outcome};
 use crate::pictures::{Kind, KINDS};
 use crate::printed::printed;
 
@@ -39,14 +39,13 @@ impl List {
         *self.summary.entry((of, value.to_string())).or_insert(0) += 1;
     }
 
-    fn note_frame(&mut self, kind: &str, frame: &Frame, corners: usize) {
+    fn note_frame(&mut self, kind: &str, frame: &Frame) {
         self.note("kind", kind);
         self.note("ray", frame.ray);
         self.note("upsampling", frame.upsampling);
         self.note("blur", frame.blur);
         self.note("mode", ["parabolic", "Gaussian"][frame.mode as usize]);
         self.note("suppression", format!("{:2}", frame.suppression));
-        self.note("corners", span(corners));
     }
 }
 
@@ -118,7 +117,7 @@ fn on_the_edge(bright: u8) -> Frame {
     like_document(9, 9, (0..81).map(pixel).collect())
 }
 
-/// Frames that document 01 names, the ends of the sizes, and a saddle on the edge.
+/// Frames that document 01 names, the ends of the sizes, and a saddle on the edge; some have a map and are too small for a list.
 fn named() -> Vec<Frame> {
     vec![
         document_frame(),
@@ -150,32 +149,56 @@ fn named() -> Vec<Frame> {
     ]
 }
 
-/// Working image, tables, response and scratch of an accepted frame.
-fn map_record(frame: &Frame, outcome: &Outcome) -> Vec<u8> {
+/// Four frames of these radii: width and height each at twice the border, or one input pixel above it. Only the last is taken.
+fn about_the_border(ray: u8, suppression: u8, upsampling: u8) -> [Frame; 4] {
+    let radii = Frame {
+        ray,
+        suppression,
+        upsampling,
+        ..document_frame()
+    };
+    let at = 2 * radii.border() / radii.factor();
+    let above = at + 1;
+    let sized = |(width, height)| Frame {
+        width: width as u16,
+        height: height as u16,
+        pixels: board(width, height),
+        ..radii.clone()
+    };
+    [(at, at), (at, above), (above, at), (above, above)].map(sized)
+}
+
+/// Cells of two pixels.
+fn board(width: usize, height: usize) -> Vec<u8> {
+    let pixel = |at: usize| [200, 0][(at % width / 2 + at / width / 2) % 2];
+    (0..width * height).map(pixel).collect()
+}
+
+/// Frames about the least size, at both factors: of document 01's frame, with ray 0, which counts as 1, without suppression, of
+/// the defaults, and of the greatest border of which the program has room for a frame.
+fn bordered() -> Vec<Frame> {
+    let radii = [(1, 1), (0, 1), (1, 0), (4, 4), (7, 15)];
+    let each = |(ray, suppression)| [1, 2].map(|up| about_the_border(ray, suppression, up));
+    radii.into_iter().flat_map(each).flatten().collect()
+}
+
+/// Working image, tables, response and scratch of a frame that has a map.
+fn map_record(frame: &Frame, map: &Mapped) -> Vec<u8> {
     let mut record = Vec::new();
     part(&mut record, &frame.bytes());
-    words(&mut record, [outcome.w as u32, outcome.h as u32]);
-    record.extend(&outcome.working);
-    for table in [
-        &outcome.row,
-        &outcome.col,
-        &outcome.diag_pos,
-        &outcome.diag_neg,
-    ] {
+    words(&mut record, [map.w as u32, map.h as u32]);
+    record.extend(&map.working);
+    for table in [&map.row, &map.col, &map.diag_pos, &map.diag_neg] {
         words(&mut record, table.iter().copied());
     }
     words(
         &mut record,
-        outcome.response.iter().map(|value| value.to_bits()),
+        map.response.iter().map(|value| value.to_bits()),
     );
-    word(&mut record, u32::from(outcome.scratch.is_some()));
+    word(&mut record, u32::from(map.scratch.is_some()));
     words(
         &mut record,
-        outcome
-            .scratch
-            .iter()
-            .flatten()
-            .map(|value| value.to_bits()),
+        map.scratch.iter().flatten().map(|value| value.to_bits()),
     );
     record
 }
@@ -193,32 +216,41 @@ fn accepts(frame: &Frame) -> bool {
     refusal(frame, Room::PROGRAM.pixels).is_none()
 }
 
-fn is_full(made: &Made) -> bool {
-    let (w, h) = made.frame.working();
-    accepts(&made.frame) && w * h >= 2_200 && made.frame.blur != 0
+/// Whether a frame is accepted, or would be if it were not too small for a list.
+fn maps(frame: &Frame) -> bool {
+    let pixels = Room::PROGRAM.pixels;
+    matches!(refusal(frame, pixels), None | Some(TOO_SMALL)) && map_refusal(frame, pixels).is_none()
 }
 
-fn is_zero(outcome: &Outcome) -> bool {
-    outcome.response.iter().all(|value| *value == 0.0)
+fn is_full(made: &Made) -> bool {
+    let (w, h) = made.frame.working();
+    maps(&made.frame) && w * h >= 2_200 && made.frame.blur != 0
+}
+
+fn is_zero(map: &Mapped) -> bool {
+    map.response.iter().all(|value| *value == 0.0)
 }
 
 impl List {
-    fn take_map(&mut self, kind: &str, frame: &Frame, outcome: &Outcome) {
-        self.note_frame(kind, frame, outcome.corners.len());
-        self.note("map", ["zero", "not zero"][usize::from(!is_zero(outcome))]);
-        self.records.push(map_record(frame, outcome));
+    fn take_map(&mut self, kind: &str, frame: &Frame, map: &Mapped) {
+        self.note_frame(kind, frame);
+        self.note("map", ["zero", "not zero"][usize::from(!is_zero(map))]);
+        let size = ["too small for a list", "enough"][usize::from(accepts(frame))];
+        self.note("size", size);
+        self.records.push(map_record(frame, map));
     }
 }
 
 pub fn map_list(seed: u64) -> List {
     let mut list = List::default();
     for frame in named() {
-        list.take_map("Named", &frame, &run(&frame));
+        list.take_map("Named", &frame, &mapped(&frame));
     }
     let whole = Sizes::within(Room::PROGRAM.pixels);
     let full = (0..).map(|index| made(seed, index, whole)).filter(is_full);
     for made in full.take(MAP_FULL) {
-        list.take_map(&format!("{:?}", made.kind), &made.frame, &run(&made.frame));
+        let map = mapped(&made.frame);
+        list.take_map(&format!("{:?}", made.kind), &made.frame, &map);
     }
     small_maps(&mut list, !seed);
     list
@@ -232,18 +264,18 @@ fn small_maps(list: &mut List, seed: u64) {
             break;
         }
         let made = made(seed, index, Sizes::within(*room));
-        if !accepts(&made.frame) {
+        if !maps(&made.frame) {
             continue;
         }
-        let outcome = run(&made.frame);
-        let left = if is_zero(&outcome) {
+        let map = mapped(&made.frame);
+        let left = if is_zero(&map) {
             &mut zero
         } else {
             &mut rays[made.frame.ray as usize]
         };
         if *left > 0 {
             *left -= 1;
-            list.take_map(&format!("{:?}", made.kind), &made.frame, &outcome);
+            list.take_map(&format!("{:?}", made.kind), &made.frame, &map);
         }
     }
 }
@@ -252,18 +284,14 @@ fn small_maps(list: &mut List, seed: u64) {
 fn list_record(frame: &Frame, outcome: &Outcome) -> Vec<u8> {
     let mut record = Vec::new();
     part(&mut record, &frame.bytes());
-    let count = outcome.corners.len();
+    let Outcome { map, corners } = outcome;
     words(
         &mut record,
-        [outcome.w as u32, outcome.h as u32, count as u32],
+        [map.w, map.h, corners.len()].map(|number| number as u32),
     );
     words(
         &mut record,
-        outcome
-            .corners
-            .iter()
-            .flatten()
-            .map(|value| value.to_bits()),
+        corners.iter().flatten().map(|value| value.to_bits()),
     );
     record
 }
@@ -287,12 +315,18 @@ fn place(kind: Kind) -> usize {
         .expect("KINDS holds all")
 }
 
+impl List {
+    fn take_list(&mut self, kind: &str, frame: &Frame, outcome: &Outcome) {
+        self.note_frame(kind, frame);
+        self.note("corners", span(outcome.corners.len()));
+        self.records.push(list_record(frame, outcome));
+    }
+}
+
 pub fn list_list(seed: u64) -> List {
     let mut list = List::default();
-    for frame in named() {
-        let outcome = run(&frame);
-        list.note_frame("Named", &frame, outcome.corners.len());
-        list.records.push(list_record(&frame, &outcome));
+    for frame in named().into_iter().chain(bordered()).filter(accepts) {
+        list.take_list("Named", &frame, &run(&frame));
     }
     let mut left = LIST_SHARES;
     for index in 0.. {
@@ -315,23 +349,48 @@ pub fn list_list(seed: u64) -> List {
         }
         *frames -= 1;
         *empty -= usize::from(count == 0);
-        list.note_frame(&format!("{:?}", made.kind), &made.frame, count);
-        list.records.push(list_record(&made.frame, &outcome));
+        list.take_list(&format!("{:?}", made.kind), &made.frame, &outcome);
     }
     list
 }
 
 /// The longest file in the program list.
 const LONGEST: usize = 2_400;
-const ACCEPTED_FRAMES: usize = 300;
+const ACCEPTED_FRAMES: usize = 280;
 const FULL_FRAMES: usize = 16;
 const REFUSED_FRAMES: usize = 18;
+/// More than are named, so that made ones are among them.
+const SMALL_FRAMES: usize = 90;
 
 /// The file of document 01's frame after a change.
 fn changed(change: impl FnOnce(&mut Frame)) -> Vec<u8> {
     let mut frame = document_frame();
     change(&mut frame);
     frame.bytes()
+}
+
+/// Frames that are too small, and something else besides: the first that applies is given, 15 after 8 and before 9.
+fn small_files() -> Vec<Vec<u8>> {
+    let small = |change: &dyn Fn(&mut Frame)| {
+        let mut frame = cut();
+        change(&mut frame);
+        frame.bytes()
+    };
+    // Of over 2,304 working pixels.
+    let thin = |width, height| doubled(like_document(width, height, vec![9; 600])).bytes();
+    let side = limits::SIDE as u16;
+    vec![
+        small(&|frame| frame.width = side + 1),
+        small(&|frame| frame.height = 7),
+        small(&|frame| frame.ray = 8),
+        small(&|frame| frame.blur = 4),
+        small(&|frame| frame.suppression = 33),
+        small(&|frame| frame.threshold = 0x7FC0_0000),
+        small(&|frame| frame.mode = 2),
+        thin(600, 1),
+        thin(1, 600),
+        doubled(like_document(0, side, vec![])).bytes(),
+    ]
 }
 
 /// Files that are no frame at all, and frames at the ends of what the program takes.
@@ -342,7 +401,9 @@ fn named_files() -> Vec<Vec<u8>> {
     let threshold = |threshold| changed(|frame| frame.threshold = threshold);
     let long = |count: usize| like_document(count as u16, 1, vec![7; count]).bytes();
     let side = limits::SIDE as u16;
-    let mut files: Vec<Vec<u8>> = named().iter().map(Frame::bytes).collect();
+    let frames = named().into_iter().chain(bordered());
+    let mut files: Vec<Vec<u8>> = frames.map(|frame| frame.bytes()).collect();
+    files.extend(small_files());
     files.extend([
         vec![],
         vec![1],
@@ -389,12 +450,13 @@ fn most(answer: &str) -> usize {
     match answer {
         "accepted" => ACCEPTED_FRAMES,
         "list full" => FULL_FRAMES,
+        "refused 15" => SMALL_FRAMES,
         _ => REFUSED_FRAMES,
     }
 }
 
 /// Answers the program can give; 4 is not among them, for its room ends long before that limit.
-const ANSWERS: [&str; 14] = [
+const ANSWERS: [&str; 15] = [
     "accepted",
     "list full",
     "refused  2",
@@ -409,6 +471,7 @@ const ANSWERS: [&str; 14] = [
     "refused 12",
     "refused 13",
     "refused 14",
+    "refused 15",
 ];
 
 impl List {

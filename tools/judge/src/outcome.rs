@@ -1,12 +1,12 @@
-//! What the published Rust makes of an accepted frame.
+//! What the published Rust makes of a frame that is taken.
 
-use crate::answers::refusal;
+use crate::answers::{map_refusal, refusal};
 use crate::frame::Frame;
-use crate::original::{self, Map, RadonBuffers};
+use crate::original::{self, Map, RadonBuffers, RadonResponseView};
 
-/// Everything document 01 names, to the bit.
+/// A frame's map and what is behind it, to the bit.
 #[derive(Clone, Debug, PartialEq)]
-pub struct Outcome {
+pub struct Mapped {
     pub w: usize,
     pub h: usize,
     pub working: Vec<u8>,
@@ -17,6 +17,12 @@ pub struct Outcome {
     pub response: Vec<f32>,
     /// Nothing where the blur leaves the scratch alone.
     pub scratch: Option<Vec<f32>>,
+}
+
+/// Everything document 01 names.
+#[derive(Clone, Debug, PartialEq)]
+pub struct Outcome {
+    pub map: Mapped,
     pub corners: Vec<[f32; 3]>,
 }
 
@@ -32,33 +38,57 @@ pub struct Found<'a> {
     pub corners: Vec<[f32; 3]>,
 }
 
+/// What the documents refuse never reaches the original: such a frame is a mistake of the caller. A map is refused less than
+/// a list is.
 impl Detector {
     pub fn new() -> Self {
         Self::default()
     }
 
-    /// What document 01 refuses never reaches the original: such a frame is a mistake of the caller.
+    /// The map alone, of a frame that is too small for a list too.
+    pub fn map(&mut self, frame: &Frame) -> Map<'_> {
+        assert_eq!(map_refusal(frame, usize::MAX), None, "a refused frame");
+        self.view(frame);
+        original::map(&self.buffers)
+    }
+
     pub fn find(&mut self, frame: &Frame) -> Found<'_> {
         assert_eq!(refusal(frame, usize::MAX), None, "a refused frame");
         let params = original::params(frame);
-        let (width, height) = (frame.width as usize, frame.height as usize);
-        let buffers = &mut self.buffers;
-        let view = original::radon_response_u8(&frame.pixels, width, height, &params, buffers);
-        let corners = original::detect_peaks_from_radon(&view, &params);
+        let corners = original::detect_peaks_from_radon(&self.view(frame), &params);
         Found {
             map: original::map(&self.buffers),
             corners,
         }
     }
+
+    fn view(&mut self, frame: &Frame) -> RadonResponseView<'_> {
+        let (width, height) = (frame.width as usize, frame.height as usize);
+        let params = original::params(frame);
+        original::radon_response_u8(&frame.pixels, width, height, &params, &mut self.buffers)
+    }
+}
+
+/// The map that the original makes of a frame, in fresh buffers.
+pub fn mapped(frame: &Frame) -> Mapped {
+    kept(frame, Detector::new().map(frame))
 }
 
 /// All that the original makes of an accepted frame, in fresh buffers.
 pub fn run(frame: &Frame) -> Outcome {
     let mut detector = Detector::new();
     let Found { map, corners } = detector.find(frame);
+    Outcome {
+        map: kept(frame, map),
+        corners,
+    }
+}
+
+/// A copy of what the detector holds of a frame.
+fn kept(frame: &Frame, map: Map) -> Mapped {
     let [row, col, diag_pos, diag_neg] = map.tables.map(sums);
     let blurred = frame.blur != 0 && !map.response.is_empty();
-    Outcome {
+    Mapped {
         w: map.w,
         h: map.h,
         working: map.working.to_vec(),
@@ -68,7 +98,6 @@ pub fn run(frame: &Frame) -> Outcome {
         diag_neg,
         response: map.response.to_vec(),
         scratch: blurred.then(|| map.scratch.to_vec()),
-        corners,
     }
 }
 

@@ -44,14 +44,14 @@ pub fn differing(detector: &mut Detector, image: Vec<u8>, w: usize, h: usize) ->
         upsampling: 2,
         blur: 0,
         mode: 0,
-        suppression: 32,
+        suppression: 0,
         least: 0,
         threshold: 0,
         pixels: image,
     };
-    let found = detector.find(&frame);
+    let map = detector.map(&frame);
     let mut count = 0;
-    for (y, row) in found.map.working.chunks(2 * w.max(1)).enumerate() {
+    for (y, row) in map.working.chunks(2 * w.max(1)).enumerate() {
         for (x, value) in row.iter().enumerate() {
             count += usize::from(*value != ruled(&frame.pixels, w, h, (x, y)));
         }

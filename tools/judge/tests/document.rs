@@ -1,7 +1,7 @@
 //! The numbers that document 01 names, asked of the original.
 
-use judge::original::{self, PeakFitMode};
-use judge::{document_frame, printed, refusal, run, Frame, Room};
+use judge::original::{self, PeakFitMode, RadonBuffers};
+use judge::{document_frame, map_refusal, mapped, printed, refusal, run, Frame, Room};
 
 const PRINTED: &str = "7 7 1\n40400000 40400000 481C4000\n";
 
@@ -31,14 +31,15 @@ fn the_frame_prints_its_two_lines() {
 
 #[test]
 fn upsampled_rows() {
-    assert_eq!(run(&small(2, 1, &[0, 1])).working, [0, 1, 1, 1, 0, 1, 1, 1]);
-    assert_eq!(run(&small(2, 2, &[1, 1, 0, 0])).working[5], 1);
-    assert_eq!(run(&small(2, 2, &[0, 1, 0, 0])).working[5], 0);
+    let working = |frame| mapped(&frame).working;
+    assert_eq!(working(small(2, 1, &[0, 1])), [0, 1, 1, 1, 0, 1, 1, 1]);
+    assert_eq!(working(small(2, 2, &[1, 1, 0, 0]))[5], 1);
+    assert_eq!(working(small(2, 2, &[0, 1, 0, 0]))[5], 0);
 }
 
 #[test]
 fn responses_of_the_frame() {
-    let map = run(&document_frame()).response;
+    let map = mapped(&document_frame()).response;
     assert_eq!(
         [map[3 * 7 + 3], map[3 * 7 + 2], map[2 * 7 + 2]],
         [160_000.0, 40_000.0, 10_000.0]
@@ -47,7 +48,7 @@ fn responses_of_the_frame() {
         upsampling: 1,
         ..small(2, 2, &[9, 0, 0, 9])
     };
-    assert_eq!(run(&two).response, [0.0; 4]);
+    assert_eq!(mapped(&two).response, [0.0; 4]);
 }
 
 #[test]
@@ -79,17 +80,69 @@ fn neighbours_of_a_plateau() {
     );
 }
 
+/// The frame cut to its first columns and rows.
+fn cut(width: usize, height: usize) -> Frame {
+    let all = document_frame().pixels;
+    let pixel = |at: usize| all[at / width * 7 + at % width];
+    Frame {
+        width: width as u16,
+        height: height as u16,
+        pixels: (0..width * height).map(pixel).collect(),
+        ..document_frame()
+    }
+}
+
+/// Document 02's fifth request, and what the original does with such frames: it finds none.
+#[test]
+fn too_small_frames() {
+    assert_eq!(text(&cut(7, 7)), PRINTED);
+    for (width, height) in [(6, 6), (6, 7), (7, 6), (1, 1), (0, 7), (7, 0), (0, 0)] {
+        let small = cut(width, height);
+        assert_eq!(text(&small), "refused 15\n");
+        assert_eq!(map_refusal(&small, usize::MAX), None);
+        let (mut buffers, params) = (RadonBuffers::default(), original::params(&small));
+        let view = original::radon_response_u8(&small.pixels, width, height, &params, &mut buffers);
+        assert!(original::detect_peaks_from_radon(&view, &params).is_empty());
+        assert_eq!((mapped(&small).w, mapped(&small).h), (width, height));
+    }
+}
+
+/// The least side for a ray, a suppression radius and an upsampling: more than twice their border in working pixels.
+#[test]
+fn the_least_sides() {
+    for (ray, suppression, upsampling, least) in [
+        (1, 1, 1, 7),
+        (0, 1, 1, 7),
+        (0, 0, 0, 5),
+        (1, 1, 2, 4),
+        (0, 1, 255, 4),
+        (4, 4, 2, 10),
+        (4, 4, 1, 19),
+        (7, 32, 1, 81),
+        (7, 32, 2, 41),
+    ] {
+        let answer = |width: usize, height: usize| {
+            let frame = Frame {
+                ray,
+                suppression,
+                upsampling,
+                width: width as u16,
+                height: height as u16,
+                pixels: vec![100; width * height],
+                ..document_frame()
+            };
+            refusal(&frame, usize::MAX)
+        };
+        assert_eq!(answer(least, least), None);
+        assert_eq!(answer(least - 1, least), Some(15));
+        assert_eq!(answer(least, least - 1), Some(15));
+        assert_eq!(answer(0, 4_096), Some(15));
+    }
+}
+
 #[test]
 fn runs() {
-    let all = document_frame().pixels;
-    let pixels = (0..36).map(|at| all[at / 6 * 7 + at % 6]).collect();
-    let cut = Frame {
-        width: 6,
-        height: 6,
-        pixels,
-        ..document_frame()
-    };
-    assert_eq!(text(&cut), "6 6 0\n");
+    assert_eq!(text(&cut(6, 6)), "refused 15\n");
     let strict = Frame {
         threshold: 0x3F80_0000,
         ..document_frame()
@@ -107,17 +160,23 @@ fn sizes_and_radii() {
     };
     assert_eq!(refusal(&sized(2_048), usize::MAX), None);
     assert_eq!(refusal(&sized(2_049), usize::MAX), Some(4));
+    // The least size for the greatest radii, which is more than the program has room for.
     let radii = |ray, blur, suppression| Frame {
+        width: 81,
+        height: 81,
+        pixels: vec![100; 81 * 81],
         ray,
         blur,
         suppression,
         ..document_frame()
     };
-    assert_eq!(text(&radii(7, 3, 32)), "7 7 0\n");
-    assert_eq!(text(&radii(8, 3, 32)), "refused 5\n");
-    assert_eq!(text(&radii(7, 4, 32)), "refused 6\n");
-    assert_eq!(text(&radii(7, 3, 33)), "refused 7\n");
-    assert_eq!(text(&radii(8, 4, 33)), "refused 5\n");
+    let answer = |frame: Frame| refusal(&frame, usize::MAX);
+    let printed = printed(&radii(7, 3, 32).bytes(), Room::FREE);
+    assert_eq!(printed, b"81 81 0\n");
+    assert_eq!(answer(radii(8, 3, 32)), Some(5));
+    assert_eq!(answer(radii(7, 4, 32)), Some(6));
+    assert_eq!(answer(radii(7, 3, 33)), Some(7));
+    assert_eq!(answer(radii(8, 4, 33)), Some(5));
     let nan = Frame {
         threshold: 0x7FC0_0000,
         ..document_frame()
@@ -168,9 +227,8 @@ fn a_saddle_on_the_edge() {
         };
         let outcome = run(&frame);
         let inner = (3..6).flat_map(|y| (3..6).map(move |x| y * 9 + x));
-        assert!(inner
-            .clone()
-            .all(|at| outcome.response[at] == outcome.response[30]));
+        let response = outcome.map.response;
+        assert!(inner.clone().all(|at| response[at] == response[30]));
         outcome.corners.len()
     };
     let five: Vec<u8> = (1..=255).filter(|bright| kept(*bright) == 5).collect();

@@ -61,8 +61,11 @@ fn the_tables_refusals() {
         pixels: 48,
         ..Room::PROGRAM
     };
+    // A window that the frame is too small for.
+    let small = (13, 2);
+    assert_eq!(accepted(&with(&[all[7], small]), room), Err(8));
+    assert_eq!(accepted(&with(&[small]), room), Err(15));
     assert_eq!(accepted(&with(&[]), room), Err(9));
-    assert_eq!(accepted(&with(&all[7..]), room), Err(8));
 }
 
 #[test]

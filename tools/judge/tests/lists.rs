@@ -1,8 +1,11 @@
 //! The maker and the lists: the same twice, whole, and with what they promise.
 
+use std::cmp::Ordering::{self, Equal, Greater, Less};
+use std::collections::BTreeSet;
+
 use judge::lists::{list_list, map_list, program_list, List, SEED};
-use judge::{accepted, damaged, made, make, printed_by, refusal, run};
-use judge::{Detector, Frame, Room, Sizes};
+use judge::{accepted, damaged, made, make, map_refusal, printed_by, refusal, run};
+use judge::{Detector, Frame, Room, Sizes, TOO_SMALL};
 
 #[test]
 fn the_maker_repeats_itself() {
@@ -16,14 +19,19 @@ fn the_maker_repeats_itself() {
 #[test]
 fn most_frames_are_accepted_and_many_have_corners() {
     let mut detector = Detector::new();
-    let (mut taken, mut cornered) = (0, 0);
+    let (mut taken, mut cornered, mut small) = (0, 0, 0);
     for index in 0..2_000 {
-        if let Ok(frame) = accepted(&make(SEED, index), Room::FREE) {
-            taken += 1;
-            cornered += usize::from(!detector.find(&frame).corners.is_empty());
+        match accepted(&make(SEED, index), Room::FREE) {
+            Ok(frame) => {
+                taken += 1;
+                cornered += usize::from(!detector.find(&frame).corners.is_empty());
+            }
+            Err(number) => small += usize::from(number == TOO_SMALL),
         }
     }
-    assert!(taken > 1_800 && cornered > 800, "{taken} {cornered}");
+    let counts = (taken, cornered, small);
+    assert!(taken > 1_400 && cornered > 800, "{counts:?}");
+    assert!((300..500).contains(&small), "{counts:?}");
 }
 
 /// Frames whose stated size is wrong on purpose, 2 and 3, are left out.
@@ -52,14 +60,18 @@ fn the_fast_path_is_the_whole_one() {
         };
         let whole = run(&frame);
         let found = detector.find(&frame);
+        let map = whole.map;
         assert_eq!(
             (found.map.w, found.map.h, found.corners),
-            (whole.w, whole.h, whole.corners)
+            (map.w, map.h, whole.corners)
         );
         assert_eq!(
             (found.map.working, found.map.response),
-            (&whole.working[..], &whole.response[..])
+            (&map.working[..], &map.response[..])
         );
+        // The map alone is the same.
+        let response = detector.map(&frame).response;
+        assert_eq!(response, map.response);
     }
 }
 
@@ -100,9 +112,11 @@ fn the_map_list() {
     let file = made_twice("map", map_list);
     assert!(file.len() < 700_000);
     let mut reader = after_line(&file);
-    let mut count = 0;
+    let (mut count, mut small) = (0, 0);
     while !reader.0.is_empty() {
-        let frame = accepted(reader.part(), Room::PROGRAM).unwrap();
+        let frame = Frame::parse(reader.part()).unwrap();
+        assert_eq!(map_refusal(&frame, Room::PROGRAM.pixels), None);
+        small += usize::from(refusal(&frame, Room::PROGRAM.pixels) == Some(TOO_SMALL));
         let (w, h) = (reader.word() as usize, reader.word() as usize);
         assert_eq!((w, h), frame.working());
         reader.bytes(w * h * (1 + 4 * 4 + 4));
@@ -111,7 +125,8 @@ fn the_map_list() {
         reader.bytes(4 * w * h * flag as usize);
         count += 1;
     }
-    assert!(count >= 140);
+    // Maps of frames that are too small for a list are among them.
+    assert!(count >= 140 && small >= 30, "{count} {small}");
 }
 
 #[test]
@@ -128,7 +143,7 @@ fn the_corner_list() {
         count += 1;
         cornered += usize::from(corners > 0);
     }
-    assert!(count >= 300 && cornered > 200);
+    assert!(count >= 290 && cornered > 200, "{count} {cornered}");
 }
 
 #[test]
@@ -137,16 +152,55 @@ fn the_program_list() {
     assert!(file.len() < 900_000);
     let mut reader = after_line(&file);
     let mut detector = Detector::new();
-    let mut answers = [0; 15];
+    let (mut answers, mut small) = ([0; 16], Small::default());
     while !reader.0.is_empty() {
         let (file, text) = (reader.part(), reader.part());
         assert!(file.len() <= 2_400);
         assert_eq!(printed_by(&mut detector, file, Room::PROGRAM), text);
         let full = usize::from(text.ends_with(b"list full\n"));
         answers[accepted(file, Room::PROGRAM).map_or_else(|number| number as usize, |_| full)] += 1;
+        if text == b"refused 15\n" {
+            small.take(&Frame::parse(file).unwrap());
+        }
     }
     assert!(answers.iter().sum::<usize>() >= 500);
     // 4 needs a larger file than the program takes.
     assert_eq!(answers.iter().filter(|count| **count == 0).count(), 1);
     assert_eq!(answers[4], 0);
+    assert!(answers[15] >= 90, "{answers:?}");
+    small.are_of_every_kind();
+}
+
+/// What stands in the list of frames that are too small, by their factors.
+#[derive(Debug, Default)]
+struct Small {
+    /// How width and height stand to twice the border.
+    sides: BTreeSet<(usize, Ordering, Ordering)>,
+    /// Which of them is 0.
+    zeros: BTreeSet<(usize, bool, bool)>,
+    /// Those of more pixels than the program has room for.
+    over: BTreeSet<usize>,
+}
+
+impl Small {
+    fn take(&mut self, frame: &Frame) {
+        let (factor, (w, h), twice) = (frame.factor(), frame.working(), 2 * frame.border());
+        self.sides.insert((factor, w.cmp(&twice), h.cmp(&twice)));
+        self.zeros.insert((factor, w == 0, h == 0));
+        if w * h > Room::PROGRAM.pixels {
+            self.over.insert(factor);
+        }
+    }
+
+    fn are_of_every_kind(&self) {
+        for factor in [1, 2] {
+            for side in [Less, Equal] {
+                let one = [(factor, side, Greater), (factor, Greater, side)];
+                assert!(one.iter().all(|one| self.sides.contains(one)), "{self:?}");
+            }
+            let zero = [(factor, true, false), (factor, false, true)];
+            assert!(zero.iter().all(|one| self.zeros.contains(one)), "{self:?}");
+        }
+        assert!(self.over.contains(&2), "{self:?}");
+    }
 }

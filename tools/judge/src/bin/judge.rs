@@ -77,22 +77,23 @@ fn hex(name: &str, bytes: &[u8]) -> String {
 }
 
 fn everything(outcome: &Outcome, room: usize) -> String {
-    let scratch = outcome.scratch.as_ref();
+    let Outcome { map, corners } = outcome;
+    let scratch = map.scratch.as_ref();
     let lines = [
-        format!("width {}", outcome.w),
-        format!("height {}", outcome.h),
-        hex("working", &outcome.working),
-        decimal("row", &outcome.row),
-        decimal("column", &outcome.col),
-        decimal("falling", &outcome.diag_pos),
-        decimal("rising", &outcome.diag_neg),
-        bits("response", &outcome.response),
+        format!("width {}", map.w),
+        format!("height {}", map.h),
+        hex("working", &map.working),
+        decimal("row", &map.row),
+        decimal("column", &map.col),
+        decimal("falling", &map.diag_pos),
+        decimal("rising", &map.diag_neg),
+        bits("response", &map.response),
         scratch.map_or("scratch untouched".to_string(), |scratch| {
             bits("scratch", scratch)
         }),
     ];
     let mut text = lines.join("\n");
-    let list = list(outcome.w, outcome.h, &outcome.corners, room);
+    let list = list(map.w, map.h, corners, room);
     write!(text, "\n{list}").expect("a string takes all");
     text
 }
