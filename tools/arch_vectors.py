@@ -3,11 +3,12 @@
 
 usage: tools/arch_vectors.py > crates/replay_arch/stdin
 
-Arches by the text of document 02, ticket 2, read a second time: where each camera's frame begins and ends is told from
-the bytes alone, and so is the refusal of a frame by document 01's; what an accepted frame has found is left to a single
-call. An arch is put together of frames made for an answer each, and what the bytes say must be the same. Every answer
-is among them but 4, for which document 01 wants a frame of over two million pixels, and 10, which is not given here.
-The same seed gives the same bytes. After a first line of text, all numbers big-endian, 4 bytes each; for each arch
+Arches by the text of document 02, tickets 2 and 5, read a second time: where each camera's frame begins and ends is
+told from the bytes alone, and so is the refusal of a frame by the documents'; what an accepted frame has found is left
+to a single call. An arch is put together of frames made for an answer each, and what the bytes say must be the same.
+Every answer is among them but 4, for which document 01 wants a frame of over two million pixels, and 10, which is not
+given here. The same seed gives the same bytes. After a first line of text, all numbers big-endian, 4 bytes each; for
+each arch
 
     the camera count
     the length of the lent list in numbers
@@ -31,7 +32,7 @@ ROOM = 2304  # entries of each lent work buffer
 LIMIT = 2324  # bytes of the longest file that is also given to a single call
 TAKEN = 0
 DEFAULT = 0x3E8F5C29
-WHOLE = (2, 3, 5, 6, 7, 8, 9, 11, 12, 14)  # the refusals of a frame that lies whole in the slice
+WHOLE = (2, 3, 5, 6, 7, 8, 9, 11, 12, 14, 15)  # the refusals of a frame that lies whole in the slice
 
 NOT_THRESHOLDS = (0x7FC00000, 0xFFC00000, 0x7F800001, 0x80000001, 0xBF800000, 0x3F800001, 0x7F800000, 0xFF800000)
 THRESHOLDS = (DEFAULT, DEFAULT, 0x00000000, 0x80000000, 0x3F800000, 0x3C23D70A, 0x00000001, 0x3F000000)
@@ -50,18 +51,23 @@ def float_of(bits):
     return struct.unpack(">f", struct.pack(">I", bits))[0]
 
 
+def border_of(ray, nms):
+    return max(ray, 1) + nms + 1
+
+
 def file_due(file):
-    """What document 01 answers to a file of its stated length, over the lent work buffers; W and H if it is taken."""
+    """What the documents answer to a file of its stated length, over the lent work buffers; W and H if it is taken."""
     if len(file) < 20:
         return 11, 0, 0
     version, _, w, h, ray, up, blur, mode, nms, _, threshold = struct.unpack(">BIHHBBBBBHI", file[:20])
     factor = min(max(up, 1), 2)
     fraction = float_of(threshold)
     working = factor * w * factor * h
+    too_small = factor * min(w, h) <= 2 * border_of(ray, nms)
     of_the_file = ((12, version != 1), (14, mode > 1))
     of_the_call = ((2, max(w, h) > 4096), (3, len(file) - 20 != w * h), (4, working > 8388608), (5, ray > 7),
                    (6, blur > 3), (7, nms > 32), (8, math.isnan(fraction) or fraction < 0 or fraction > 1),
-                   (9, working > ROOM))
+                   (15, too_small), (9, working > ROOM))
     for answer, given in of_the_file + of_the_call:
         if given:
             return answer, 0, 0
@@ -133,17 +139,31 @@ def small_board(dice):
     return frame(w, h, pixels, ray=dice.randrange(1, 3), threshold=THRESHOLDS[5])
 
 
-def any_taken(dice, side=16):
-    """A frame within the settings of document 01, of at most so many pixels a side."""
+def least_side(ray, nms, up):
+    """Input pixels that a side has at least."""
+    return 2 * border_of(ray, nms) // min(max(up, 1), 2) + 1
+
+
+def any_taken(dice, side=14):
+    """A frame within the settings of document 01, of at most so many pixels a side, or a few more than it needs."""
     up = dice.choice((0, 1, 1, 1, 2, 2, 3, 255))
-    w, h = dice.randrange(7, side + 1), dice.randrange(7, side + 1)
-    if dice.randrange(12) == 0:
-        w, h = dice.choice(((0, 0), (0, 9), (5, 0), (1, 1), (4096, 0), (0, 4096), (300, 1), (1, 200)))
-    if up > 1:
-        w, h = (min(w, 24), min(h, 24)) if min(w, h) > 1 else (w, h)
+    ray, nms = dice.choice((0, 1, 1, 1, 2, 2, 3, 7)), dice.choice((0, 1, 1, 1, 2, 3, 6))
+    least = least_side(ray, nms, up)
+    most = min(max(side, least + 2), 24 if up > 1 else 48)
+    w, h = (least if dice.randrange(6) == 0 else dice.randrange(least, most + 1) for _ in range(2))
     return frame(w, h, picture(dice, w, h), up=up, mode=dice.randrange(2), threshold=dice.choice(THRESHOLDS),
-                 ray=dice.choice((0, 1, 1, 1, 2, 2, 3, 7)), blur=dice.choice((0, 0, 1, 2, 3)),
-                 nms=dice.choice((0, 1, 1, 1, 2, 3, 32)), least=dice.choice((0, 1, 2, 2, 4, 9, 65535)))
+                 ray=ray, blur=dice.choice((0, 0, 1, 2, 3)), nms=nms, least=dice.choice((0, 1, 2, 2, 4, 9, 65535)))
+
+
+def too_small(dice):
+    """A side is at most twice the border: just so, by far, or 0; also with more pixels than there is room for."""
+    up, ray, nms = dice.choice((0, 1, 2, 3)), dice.choice((0, 1, 2, 7)), dice.choice((0, 1, 1, 2, 32))
+    small = min(least_side(ray, nms, up) - 1, 20)
+    just, far = (small, small + dice.choice((0, 1, 5))), (dice.randrange(small + 1), small)
+    w, h = dice.choice((just, just, far, (1, 60), (0, 0), (0, 9), (0, 4096), (1, 600)))
+    if dice.randrange(2):
+        w, h = h, w
+    return frame(w, h, picture(dice, w, h), up=up, ray=ray, nms=nms, blur=dice.randrange(4), mode=dice.randrange(2))
 
 
 def taken(dice):
@@ -165,9 +185,11 @@ def refused(dice, answer):
     pixels = board(w, h, 3, dice.randrange(3), dice.randrange(3))
     faults = {5: {"ray": dice.choice((8, 255))}, 6: {"blur": dice.choice((4, 255))}, 7: {"nms": dice.choice((33, 255))},
               8: {"threshold": dice.choice(NOT_THRESHOLDS)}, 14: {"mode": dice.choice((2, 255))},
-              12: {"version": dice.choice((0, 2, 255))}}
+              12: {"version": dice.choice((0, 2, 255))}, 15: {"nms": dice.choice((4, 32))}}
     more = {}
-    for other in {2: (5, 8), 3: (5, 6), 5: (6, 7, 8), 6: (7, 8), 7: (8,), 12: (14, 5), 14: (5, 7)}.get(answer, ()):
+    others = {2: (5, 8, 15), 3: (5, 6, 15), 5: (6, 7, 8), 6: (7, 8, 15), 7: (8,), 8: (15,), 12: (14, 5),
+              14: (5, 7, 15)}
+    for other in others.get(answer, ()):
         if dice.randrange(3) == 0:
             more.update(faults[other])
     more.update(faults.get(answer, {}))
@@ -178,8 +200,10 @@ def refused(dice, answer):
         wrong = dice.choice((pixels[:-1], pixels + [0], [], pixels + pixels, pixels[:1]))
         return frame(w, h, wrong, **more)
     if answer == 9:
-        sides = dice.choice(((25, 24), (577, 1), (1, 577)))
+        sides = dice.choice(((25, 24), (145, 4), (4, 145)))
         return frame(*sides, [dice.randrange(256)] * (sides[0] * sides[1]), up=dice.choice((2, 3)))
+    if answer == 15:
+        return too_small(dice)
     if answer == 11:
         return short(dice, dice.randrange(15))
     if answer == 12 and dice.randrange(3) == 0:  # and no pixels
@@ -199,8 +223,9 @@ def long_frames():
     return [
         (frame(5000, 1, line), 2), (frame(7, 7, crossing(7, 7, 3, 3) + line), 3), (frame(0, 0, line), 3),
         (frame(2305, 1, line, ray=8), 5), (frame(1, 2305, line, blur=4), 6), (frame(2305, 1, line, nms=33), 7),
-        (frame(1, 2305, line, threshold=0x7FC00000), 8), (frame(2305, 1, line), 9), (frame(49, 48, plane), 9),
+        (frame(1, 2305, line, threshold=0x7FC00000), 8), (frame(2305, 1, line), 15), (frame(49, 48, plane), 9),
         (frame(48, 49, plane, up=2), 9), (frame(1, 2305, line, version=2), 12), (frame(2305, 1, line, mode=2), 14),
+        (frame(49, 48, plane, nms=22), 15), (frame(48, 49, plane, nms=21), 9),
     ]
 
 
@@ -248,6 +273,20 @@ def refused_among(dice):
     for cameras in range(2, 9):  # all are refused
         kinds = [dice.choice(WHOLE) for _ in range(cameras)]
         yield arch(dice, cameras, [(refused(dice, answer), answer) for answer in kinds])
+
+
+def about_the_border(dice):
+    """Each factor, rays of 0 and more: at twice the border a side is too small, one pixel above it is not."""
+    for k, (ray, nms, up) in enumerate(((1, 1, 1), (0, 1, 1), (1, 1, 2), (0, 0, 0), (0, 1, 3), (4, 4, 2), (7, 13, 2))):
+        least = least_side(ray, nms, up)
+        sides = [(w, h) for w in (least - 1, least) for h in (least - 1, least)]
+        made = [frame(w, h, picture(dice, w, h), ray=ray, nms=nms, up=up) for w, h in sides]
+        frames = list(zip(made, (15, 15, 15, TAKEN)))
+        dice.shuffle(frames)
+        yield arch(dice, 4, frames)
+        frames = some(dice, 2 + k)  # one that is cropped, and others
+        frames[dice.randrange(2 + k)] = (made[dice.randrange(3)], 15)
+        yield arch(dice, 2 + k, frames)
 
 
 def short_among(dice):
@@ -339,7 +378,7 @@ def mixed(dice):
         for _ in range(cameras):
             kind = dice.randrange(10)
             answer = dice.choice(WHOLE) if kind < 4 else TAKEN
-            accepted = any_taken(dice, 24) if kind < 6 else taken(dice)
+            accepted = any_taken(dice, 18) if kind < 6 else taken(dice)
             frames.append((refused(dice, answer) if answer else accepted, answer))
         yield arch(dice, cameras, frames, bytes(dice.randrange(3)))
 
@@ -362,8 +401,8 @@ def nothing_there(dice):
 
 
 def arches(dice):
-    for kind in (every_remainder, refused_among, short_among, long_among, cut_among, too_little_left, trailing, hidden,
-                 mixed, arches_refused, nothing_there):
+    for kind in (every_remainder, refused_among, about_the_border, short_among, long_among, cut_among, too_little_left,
+                 trailing, hidden, mixed, arches_refused, nothing_there):
         yield from kind(dice)
 
 
