@@ -17,7 +17,8 @@ Then
     for found in finder.arch(files):                 # all cameras of an arch in one call: their frame files
         print("refused" if isinstance(found, steyrbunk.Refused) else len(found))
 
-A refusal raises `Refused`, with the documents' number and its words; there is no list then, and none from before.
+A refusal raises `Refused`, with the documents' number and its words; there is no list then, and none from before. An image
+that is too small to judge is one, 15: an empty list is only of an image that was searched.
 What is proved is the library behind the call; this file is not, and is tested by running it.
 """
 
@@ -52,6 +53,7 @@ WORDS = {
     12: "the frame file's version is not 1",
     13: "the frame file does not have the length that it states",
     14: "the mode is neither 0 (parabolic) nor 1 (Gaussian)",
+    15: "the frame is too small to judge: its working width or height is at most twice (ray + suppression + 1); look at the crop, the camera mode and the radii, not at the panel",
     16: "the record has under 13 bytes or not the length that it states",
     17: "the record's version is not 1",
     18: "the record's count and length disagree, or there are over 8,388,608 corners",

@@ -64,7 +64,7 @@ for image in (bytearray(FRAME), memoryview(FRAME), array.array("B", FRAME), mapp
 square = memoryview(FRAME).cast("B", (7, 7))
 check(finder.find(square, **SETTINGS), corner)
 check(finder.find(square, 7, 7, **SETTINGS), corner)
-check(finder.find(memoryview(bytes(2 * v for v in FRAME[:0])), 0, 0, **SETTINGS), [])
+check(finder.find(bytes(49), 7, 7, **SETTINGS), [])
 # Every second byte of a longer buffer: rows that do not lie end to end.
 spread = bytearray(2 * len(FRAME))
 spread[::2] = FRAME
@@ -97,9 +97,18 @@ for number, arguments, settings in (
     (8, (FRAME, 7, 7), {"threshold_rel": float("nan")}),
     (8, (FRAME, 7, 7), {"threshold_rel": -0.5}),
     (14, (FRAME, 7, 7), {"peak_fit": 2}),
+    (15, (FRAME[:42], 6, 7), SETTINGS),
+    (15, (FRAME[:42], 7, 6), SETTINGS),
+    (15, (FRAME, 7, 7), {**SETTINGS, "nms_radius": 2}),
+    (15, (bytes(90), 9, 10), {}),
+    (15, (b"", 0, 0), {}),
+    (15, (memoryview(b""), 0, 4096), SETTINGS),
 ):
     refused(number, finder.find, *arguments, **settings)
     check(finder.find(FRAME, 7, 7, **SETTINGS), corner)
+# Empty, and large enough to be.
+empty = finder.find(bytes(100), 10, 10)
+check((empty, empty.width, empty.height), ([], 20, 20))
 
 # What no call can be made of.
 wrong(TypeError, finder.find, FRAME)
@@ -155,6 +164,7 @@ refusals = {
     11: b"\1\0\0\0\x0e" + bytes(14),
     12: b"\2" + small[1:],
     14: frame_file(FRAME, 7, 7, fit=2),
+    15: frame_file(FRAME[:42], 6, 7),
 }
 for number, file in refusals.items():
     check(results(finder.arch([small, file, small])), [one, number, one])

@@ -10,6 +10,8 @@
  * Words used below
  *   factor       1 or 2: image_upsample, where 0 counts as 1, and 3 or more as 2
  *   W, H         working width and height: width and height times the factor
+ *   border       ray_radius, where 0 counts as 1, + nms_radius + 1: nearer to an edge of the working image
+ *                no corner is looked for
  *   entry        one element of a buffer; lengths are counted in entries, not in bytes
  *
  * Lent buffers. working, the four tables, response and blur_scratch need at least W*H entries each,
@@ -22,7 +24,7 @@
  * lie anywhere. count, w, h and told are written with every answer and must not be null: a null one is
  * written through, and the program is ended by the system or worse.
  *
- * Answers. The lowest number of 2 to 9 that applies is given; 14 comes before them.
+ * Answers. The first that applies is given, in this order: 14, 2 to 8, 15, 9.
  *    0  accepted, all corners are in the list
  *    1  accepted, more corners than the list has room for: it holds the opening ones
  *    2  width or height is over STEYRBUNK_GREATEST_SIDE
@@ -32,6 +34,8 @@
  *    6  response_blur_radius is over STEYRBUNK_GREATEST_BLUR_RADIUS
  *    7  nms_radius is over STEYRBUNK_GREATEST_NMS_RADIUS
  *    8  threshold_rel is NaN, below 0 or above 1
+ *   15  W or H is at most twice the border, a side of 0 too: the frame is too small to judge. Look at the
+ *       crop, the camera mode and the radii; an empty panel is another thing, answered 0 with a count of 0
  *    9  a lent buffer other than the list is too short
  *   14  peak_fit is above 1
  * A camera of an arch is answered by these and by 11 to 13, which come before 14; 13 comes first.
@@ -40,7 +44,7 @@
  *   13  the frame file states a length that runs past the end of frames
  * The arch itself is answered 0 or
  *   21  the camera count is not 2 to 8, or the list has less than one corner a camera
- * Records are answered 0 or one of these, again the lowest that applies:
+ * Records are answered 0 or one of these, the lowest that applies:
  *   16  the record has under 13 bytes or not the length that it states
  *   17  the record's version is not 1
  *   18  the record's count and length disagree, or there are over STEYRBUNK_GREATEST_RECORD_CORNERS
@@ -84,10 +88,10 @@ extern "C" {
 #define STEYRBUNK_PARABOLIC 0u
 #define STEYRBUNK_GAUSSIAN 1u
 
-/* Map and list of an image. Answers 0 to 9 and 14. */
+/* Map and list of an image. Answers 0 to 9, 14 and 15. */
 uint32_t steyrbunk_find(
     const uint8_t *image, size_t image_len, /* pixels, 0 to 255, row after row; width times height of them */
-    size_t width, size_t height,            /* of the image; a side of 0 finds nothing */
+    size_t width, size_t height,            /* of the image; W and H must be above twice the border (15) */
     uint32_t ray_radius,                    /* half length of the four rays in working pixels; 0 counts as 1 */
     uint32_t image_upsample,                /* the factor: 0 counts as 1, 3 or more as 2 */
     uint32_t response_blur_radius,          /* half size of the box that blurs the map; 0 leaves it sharp */
@@ -109,7 +113,8 @@ uint32_t steyrbunk_find(
     size_t *w, size_t *h          /* get W and H; 0 with a refusal */
 );
 
-/* The map alone. The arguments are those of steyrbunk_find; what only the list uses is absent.
+/* The map alone. The arguments are those of steyrbunk_find; what only the list uses is absent. A frame may be
+ * too small for a list: it has a map, all zero where W or H is at most twice the ray radius, and 15 is not given.
  * Answers 0, 2, 3, 4, 5, 6 and 9. */
 uint32_t steyrbunk_response(
     const uint8_t *image, size_t image_len,
@@ -129,7 +134,8 @@ uint32_t steyrbunk_response(
 
 /* The list of a map, which is only read. Settings and list are those of steyrbunk_find.
  * Answers 0 and 1; 2 for w or h over STEYRBUNK_GREATEST_WORKING_SIDE; 4 for w*h over
- * STEYRBUNK_GREATEST_WORKING; 5 to 8; 9 for a response or an image shorter than w*h; 14. */
+ * STEYRBUNK_GREATEST_WORKING; 5 to 8; 15 for w or h at most twice the border; 9 for a response or an
+ * image shorter than w*h; 14. The order is as above. */
 uint32_t steyrbunk_peaks(
     const float *response, size_t response_len, /* the map, as steyrbunk_response left it */
     const uint8_t *image, size_t image_len,     /* the working image that belongs to it */

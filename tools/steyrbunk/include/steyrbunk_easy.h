@@ -64,8 +64,15 @@ static inline size_t steyrbunk_working_pixels(size_t width, size_t height, const
     return pixels > STEYRBUNK_GREATEST_WORKING ? 0 : pixels;
 }
 
+/* Input pixels that either side of an image has at least: one that has less is refused, 15. */
+static inline size_t steyrbunk_least_side(const steyrbunk_settings *settings) {
+    size_t ray = settings->ray_radius == 0 ? 1 : settings->ray_radius;
+    size_t border = ray + settings->nms_radius + 1;
+    return (settings->image_upsample < 2 ? 2 * border : border) + 1;
+}
+
 /* Bytes that a workspace needs for an image of these sides: 25 a working pixel, the working image's rounded
- * up to whole words; 0 where there is no pixel or the sizes are refused. */
+ * up to whole words; 0 where there is no pixel or the sizes are refused as too great. */
 static inline size_t steyrbunk_workspace(size_t width, size_t height, const steyrbunk_settings *settings) {
     size_t pixels = steyrbunk_working_pixels(width, height, settings);
     return 24 * pixels + (pixels + 3) / 4 * 4;
@@ -195,6 +202,7 @@ static inline const char *steyrbunk_words(uint32_t answer) {
     case 12: return "the frame file's version is not 1";
     case 13: return "the frame file does not have the length that it states";
     case 14: return "the mode is neither 0 (parabolic) nor 1 (Gaussian)";
+    case 15: return "the frame is too small to judge: its working width or height is at most twice (ray + suppression + 1); look at the crop, the camera mode and the radii, not at the panel";
     case 16: return "the record has under 13 bytes or not the length that it states";
     case 17: return "the record's version is not 1";
     case 18: return "the record's count and length disagree, or there are over 8,388,608 corners";

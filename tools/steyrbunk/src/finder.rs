@@ -240,7 +240,7 @@ impl Finder {
         }
     }
 
-    /// The map of an image; the settings that only the list uses are not looked at.
+    /// The map of an image, which may be too small for a list; the settings that only the list uses are not looked at.
     pub fn response(&mut self, image: Image, settings: &Settings) -> Result<Map<'_>, Refusal> {
         self.prepare(image, settings);
         let answer = lent::response(image, settings, self.buffers.lend()).accepted()?;

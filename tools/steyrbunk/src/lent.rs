@@ -206,7 +206,7 @@ pub fn arch(cameras: usize, frames: &[u8], lent: Buffers, list: &mut [f32]) -> A
     }
 }
 
-/// The map of an image; of the settings only the first three are looked at.
+/// The map of an image, which may be too small for a list; of the settings only the first three are looked at.
 pub fn response(image: Image, settings: &Settings, lent: Buffers) -> Answer {
     let (mut width, mut height) = (UNWRITTEN, UNWRITTEN);
     let number = image_call!(

@@ -17,6 +17,7 @@ pub enum Refusal {
     Version,
     StatedLength,
     Mode,
+    FrameTooSmall,
     RecordLength,
     RecordVersion,
     CornerCount,
@@ -29,7 +30,7 @@ pub enum Refusal {
 
 use Refusal::*;
 
-const TABLE: [(u32, Refusal, &str); 19] = [
+const TABLE: [(u32, Refusal, &str); 20] = [
     (2, SideTooLong, "width or height is over 4,096 pixels"),
     (
         3,
@@ -54,6 +55,11 @@ const TABLE: [(u32, Refusal, &str); 19] = [
         14,
         Mode,
         "the mode is neither 0 (parabolic) nor 1 (Gaussian)",
+    ),
+    (
+        15,
+        FrameTooSmall,
+        "the frame is too small to judge: its working width or height is at most twice (ray + suppression + 1); look at the crop, the camera mode and the radii, not at the panel",
     ),
     (
         16,

@@ -65,4 +65,14 @@ impl Settings {
     pub fn factor(&self) -> usize {
         self.image_upsample.clamp(1, 2) as usize
     }
+
+    /// How many working pixels about a frame's edge no corner is looked for in: ray, suppression and one.
+    pub fn border(&self) -> usize {
+        self.ray_radius.max(1) as usize + self.nms_radius as usize + 1
+    }
+
+    /// Input pixels that either side of an image has at least; one that has less is refused, 15, for a list.
+    pub fn least_side(&self) -> usize {
+        2 * self.border() / self.factor() + 1
+    }
 }

@@ -231,7 +231,7 @@ fn seeded_arches() {
     }
     println!("answers of the cameras by number: {answers:?}");
     // The arches show each of these often; 4 has a test of its own.
-    for number in [0, 1, 2, 3, 5, 6, 7, 8, 9, 11, 12, 13, 14, 21] {
+    for number in [0, 1, 2, 3, 5, 6, 7, 8, 9, 11, 12, 13, 14, 15, 21] {
         assert!(answers[number] > 50, "{number} came {}", answers[number]);
     }
     assert_eq!((answers[4], answers[10]), (0, 0));
@@ -297,7 +297,20 @@ fn refused_files() -> Vec<(u32, Vec<u8>)> {
         (8, with(&|frame| frame.threshold = 0x3F80_0001)),
         (12, struck(0, 0)),
         (14, struck(12, 2)),
+        (15, with(&|frame| frame.suppression = 2)),
     ];
+    // Too small by one side, by both, and without a pixel.
+    files.extend(
+        [(6, 7), (7, 6), (6, 6), (0, 7), (7, 0)].map(|(width, height)| {
+            let small = judge::Frame {
+                width,
+                height,
+                pixels: vec![9; usize::from(width * height)],
+                ..document.clone()
+            };
+            (15, small.bytes())
+        }),
+    );
     // Under 20 bytes, and whole: version and all else are not looked at.
     files.extend((0..15).map(|few| {
         (
@@ -350,6 +363,38 @@ fn too_many_working_pixels() {
     assert_eq!(told.cameras[..3], [ONE, refused(4), ONE]);
     let found = Finder::new().arch(3, &frames).expect("three cameras");
     assert_eq!(found[1], Err(Refusal::TooManyPixels));
+}
+
+/// A camera whose picture is cropped too far is told 15, however short the buffers are; one pixel more is searched.
+#[test]
+fn cropped_cameras() {
+    let sized = |width: u16, height: u16| judge::Frame {
+        width,
+        height,
+        ray: 4,
+        suppression: 4,
+        upsampling: 2,
+        pixels: vec![100; usize::from(width * height)],
+        ..document_frame()
+    };
+    let files = [sized(10, 10), sized(9, 10), sized(600, 9), sized(10, 11)];
+    let frames = join(&files.map(|frame| frame.bytes()));
+    let searched = |width, height| Answer {
+        width,
+        height,
+        ..Answer::default()
+    };
+    let (told, _) = holds(4, &frames, &Lent::old(440, 60, 0x5A));
+    let small = refused(15);
+    let expected = [searched(20, 20), small, small, searched(20, 22)];
+    assert_eq!(told.cameras[..4], expected);
+    let (told, left) = holds(4, &frames, &Lent::old(0, 60, 0x5A));
+    let short = refused(9);
+    assert_eq!(told.cameras[..4], [short, small, small, short]);
+    assert_eq!(left, Lent::old(0, 60, 0x5A));
+    let found = Finder::new().arch(4, &frames).expect("four cameras");
+    assert_eq!(found[2], Err(Refusal::FrameTooSmall));
+    assert_eq!(found[0].as_ref().map(|found| found.corners.len()), Ok(0));
 }
 
 /// Buffers too short for one camera are no matter for the others: 9.

@@ -112,7 +112,15 @@ fn the_example() {
             &b"refused 3: the number of pixels is not width times height\n"[..]
         )
     );
-    assert_eq!(run(&program, b"P5 0 0 255\n").stdout, b"0 corners\n");
+    // An empty panel, and a picture that is too small to be one.
+    let grey = |width, height| run(&program, &pgm(&frame(Kind::Flat, width, height)));
+    assert_eq!(grey(10, 10).stdout, b"0 corners\n");
+    for output in [grey(9, 10), grey(0, 0)] {
+        let words = format!("{}\n", Refusal::FrameTooSmall);
+        assert!(words.starts_with("refused 15: the frame is too small to judge"));
+        assert_eq!(output.stderr, words.as_bytes());
+        assert_eq!((output.stdout.len(), output.status.code()), (0, Some(1)));
+    }
     let commented = pgm(&board);
     let commented = [b"P5 # grey\n# by a camera", &commented[2..]].concat();
     assert_eq!(
@@ -180,7 +188,7 @@ fn the_words() {
         read("include/steyrbunk_easy.h"),
         read("../../python/steyrbunk.py"),
     );
-    for number in (2..=21).filter(|number| ![10, 15].contains(number)) {
+    for number in (2..=21).filter(|number| *number != 10) {
         let refusal = Refusal::from_number(number);
         assert_ne!(refusal, Refusal::Unknown(number));
         let sentence = refusal.sentence();

@@ -33,6 +33,40 @@ static uint32_t find(steyrbunk_settings settings, size_t width, size_t height, s
     return answer;
 }
 
+/* Images at twice the border are refused, and one pixel more is searched, at either factor; so the map's own entry, which takes
+ * them, and the list's, which does not. */
+static void small(const steyrbunk_settings *settings) {
+    steyrbunk_settings one = *settings, two = one, none = one;
+    float list[6] = {7, 7, 7, 7, 7, 7};
+    size_t count = 99, w = 99, h = 99;
+    two.image_upsample = 2, none.ray_radius = 0;
+    check(steyrbunk_least_side(&one) == 7 && steyrbunk_least_side(&two) == 4 && steyrbunk_least_side(&none) == 7, "the least side");
+    steyrbunk_settings usual = steyrbunk_defaults();
+    check(steyrbunk_least_side(&usual) == 10, "the least side for the defaults");
+    check(find(one, 6, 7, 42, 0, 1, &count, list) == 15 && find(one, 7, 6, 42, 0, 1, &count, list) == 15, "15");
+    check(find(none, 6, 6, 36, 0, 1, &count, list) == 15 && find(two, 3, 4, 12, 0, 1, &count, list) == 15, "15 of ray 0, at factor 2");
+    check(find(one, 0, 0, 0, 0, 1, &count, list) == 15 && find(two, 0, 9, 0, 0, 1, &count, list) == 15, "15 of an image without pixels");
+    check(find(one, 6, 7, 42, -1, 1, &count, list) == 15 && find(one, 7, 7, 49, -1, 1, &count, list) == 9, "15 before 9");
+    check(list[0] == 7 && list[5] == 7, "15 leaves the list");
+    two.threshold_rel = 1.5f;
+    check(find(two, 3, 4, 12, 0, 1, &count, list) == 8, "8 before 15");
+    two.threshold_rel = one.threshold_rel;
+    check(find(two, 4, 4, 16, 0, 1, &count, list) <= 1, "one pixel more at factor 2");
+
+    uint8_t working[42];
+    uint32_t row[42], col[42], falling[42], rising[42];
+    float response[42], scratch[42];
+    check(steyrbunk_response(
+        frame, 42, 6, 7, 1, 1, 0, working, 42, row, 42, col, 42, falling, 42, rising, 42, response, 42, scratch, 42, &w, &h) == 0
+        && w == 6 && h == 7 && memcmp(working, frame, 42) == 0, "the map of an image that is too small for a list");
+    check(steyrbunk_peaks(
+        response, 42, working, 42, 6, 7, 1, 1, 0, STEYRBUNK_PARABOLIC, 0.28f, 1, 2, list, 6, &count) == 15
+        && count == 0, "15 of the list's own entry");
+    check(steyrbunk_response(
+        NULL, 0, 0, 9, 1, 2, 0, NULL, 0, NULL, 0, NULL, 0, NULL, 0, NULL, 0, NULL, 0, NULL, 0, &w, &h) == 0
+        && w == 0 && h == 18, "the map of no pixels");
+}
+
 /* Document 01's corner kept and read back, in buffers that end where they must: one byte or number less is refused. */
 static void records(const steyrbunk_settings *settings) {
     float list[8] = {3, -0.0f, 160000, 1e-45f, 3.40282347e38f, -5, 0, 0};
@@ -139,6 +173,11 @@ static void arches(void) {
         check(steyrbunk_arch_in(cameras[i], NULL, 0, NULL, 0, list, numbers, told) == 21, "21");
         for (size_t at = 0; at < STEYRBUNK_MOST_CAMERAS; at++) check(told_is(told + at, 21, 0, 0), "all are told 21");
     }
+    uint8_t *cropped = files(3);
+    cropped[69 + 13] = 2; /* the suppression radius of the second, so that its frame is too small */
+    check(arch(3, cropped, 207, 24 * 49 + 52, list, 0, told) == 0 && told_is(told + 1, 15, 0, 0), "15 of a camera");
+    check(told_is(told, 0, 1, 7) && told_is(told + 2, 0, 1, 7) && list[3] == 7, "15 stops nobody");
+    free(cropped);
     uint8_t *sizes = files(1);
     sizes[6] = 8;
     check(steyrbunk_arch_workspace(sizes, 69) == 0, "the workspace of sizes that are refused");
@@ -169,7 +208,7 @@ int main(void) {
     }
     check(find(one, 7, 7, 49, 100, 1, &count, list) == 0, "a longer workspace");
     for (long less = 1; less <= 8; less++) check(find(one, 7, 7, 49, -less, 1, &count, list) == 9, "a shorter workspace");
-    check(find(one, 0, 0, 0, 0, 1, &count, list) == 0 && count == 0, "an empty image");
+    small(&one);
     check(find(one, 4097, 1, 4097, 0, 1, &count, list) == 2, "2");
     check(find(one, 7, 6, 49, 0, 1, &count, list) == 3, "3");
     check(find(one, 7, 7, 49, 0, 1, &count, list) == 0, "0");
@@ -182,7 +221,8 @@ int main(void) {
     records(&one);
     arches();
     check(strcmp(steyrbunk_words(5), "the ray radius is over 7") == 0, "words");
-    check(strcmp(steyrbunk_words(99), steyrbunk_words(15)) == 0, "words of what is not known");
+    check(strcmp(steyrbunk_words(99), steyrbunk_words(22)) == 0, "words of what is not known");
+    check(strncmp(steyrbunk_words(15), "the frame is too small to judge: ", 33) == 0, "words of 15");
     if (!wrong) puts("all answers as they should be");
     return wrong;
 }

@@ -553,7 +553,7 @@ fn frames_are_kept() {
         (Kind::Board45, 333, 222),
         (Kind::Random, 200, 300),
         (Kind::Flat, 60, 50),
-        (Kind::Flat, 0, 7),
+        (Kind::Flat, 10, 10),
     ] {
         let frame = frame(kind, width, height);
         let found = finder

@@ -3,13 +3,22 @@
 mod common;
 
 use common::{frame, image, Lent, DOCUMENT};
-use judge::{document_frame, Kind};
+use judge::{document_frame, mapped, Frame, Kind};
 use steyrbunk::lent::{self, Answer, Buffers, View};
 use steyrbunk::{arch, limits, Finder, Image, Refusal, Settings};
 
 fn refused(number: u32) -> Answer {
     Answer {
         number,
+        ..Answer::default()
+    }
+}
+
+/// Accepted, and without a corner.
+fn nothing(width: u16, height: u16) -> Answer {
+    Answer {
+        width: width.into(),
+        height: height.into(),
         ..Answer::default()
     }
 }
@@ -151,8 +160,8 @@ fn settings() {
 #[test]
 fn at_the_limits() {
     let document = document_frame();
-    for (ray_radius, response_blur_radius, nms_radius) in
-        [(7, 0, 1), (1, 3, 1), (1, 0, 32), (7, 3, 32)]
+    for (ray_radius, response_blur_radius, nms_radius, side) in
+        [(7, 0, 1, 19), (1, 3, 1, 7), (1, 0, 32, 69), (7, 3, 32, 81)]
     {
         let settings = Settings {
             ray_radius,
@@ -160,10 +169,9 @@ fn at_the_limits() {
             nms_radius,
             ..DOCUMENT
         };
-        assert_eq!(
-            Lent::old(49, 3, 0).find(image(&document), &settings).number,
-            0
-        );
+        let grey = frame(Kind::Flat, side, side);
+        let mut lent = Lent::old(grey.pixels.len(), 3, 0);
+        assert_eq!(lent.find(image(&grey), &settings), nothing(side, side));
     }
     for threshold_rel in [0.0, -0.0, 1.0, f32::MIN_POSITIVE] {
         let settings = Settings {
@@ -230,7 +238,101 @@ fn the_lowest_number() {
     settings.nms_radius = 32;
     refuses(8, false, image(&document), &settings, &lent);
     settings.threshold_rel = 0.5;
+    refuses(15, false, image(&document), &settings, &lent);
+    (settings.ray_radius, settings.nms_radius) = (1, 1);
     refuses(9, true, image(&document), &settings, &lent);
+}
+
+/// The settings of a frame.
+fn settings_of(frame: &Frame) -> Settings {
+    let file = frame.bytes();
+    let frame = steyrbunk::frame::Frame::parse(&file);
+    frame.expect("a frame file").settings
+}
+
+/// The map's own entry takes a frame, and leaves the original's map in the first entries of longer buffers.
+fn has_its_map(frame: &Frame) {
+    let map = mapped(frame);
+    let pixels = map.w * map.h;
+    let old = Lent::old(pixels + 3, 0, 0x5A);
+    let mut lent = old.clone();
+    let answer = lent.response(image(frame), &settings_of(frame));
+    assert_eq!(answer, nothing(map.w as u16, map.h as u16));
+    let bits = |floats: Vec<f32>| floats.into_iter().map(f32::to_bits).collect();
+    let mut expected = Lent {
+        working: map.working,
+        tables: [map.row, map.col, map.diag_pos, map.diag_neg],
+        response: bits(map.response),
+        scratch: bits(map.scratch.unwrap_or_default()),
+        list: Vec::new(),
+    };
+    expected.working.extend(&old.working[pixels..]);
+    for (table, old) in expected.tables.iter_mut().zip(&old.tables) {
+        table.extend(&old[pixels..]);
+    }
+    expected.response.extend(&old.response[pixels..]);
+    let left = expected.scratch.len();
+    expected.scratch.extend(&old.scratch[left..]);
+    assert_eq!(lent, expected);
+}
+
+/// Document 02's fifth request: either side at most twice the border, at both factors. One pixel more is searched.
+#[test]
+fn frames_that_are_too_small() {
+    for (ray, suppression, upsampling, least) in [
+        (1, 1, 1, 7),
+        (0, 1, 1, 7),
+        (0, 0, 0, 5),
+        (1, 1, 2, 4),
+        (0, 2, 255, 5),
+        (4, 4, 2, 10),
+        (4, 4, 1, 19),
+        (7, 32, 1, 81),
+        (7, 32, 3, 41),
+    ] {
+        let sized = |kind, width, height| Frame {
+            ray,
+            suppression,
+            upsampling,
+            blur: ray % 4,
+            ..frame(kind, width, height)
+        };
+        let grey = sized(Kind::Flat, least, least);
+        let settings = settings_of(&grey);
+        assert_eq!(settings.least_side(), usize::from(least));
+        let factor = settings.factor() as u16;
+        let mut lent = Lent::old(grey.pixels.len() * usize::from(factor * factor), 30, 0x5A);
+        let answer = lent.find(image(&grey), &settings);
+        assert_eq!(answer, nothing(factor * least, factor * least));
+        let small = least - 1;
+        for (width, height) in [
+            (small, small),
+            (small, least),
+            (least, small),
+            (small, 300),
+            (300, small),
+            (1, least),
+            (least, 1),
+            (0, least),
+            (least, 0),
+            (0, 0),
+            (4_096, 0),
+            (0, 4_096),
+        ] {
+            let noise = sized(Kind::Random, width, height);
+            // Enough for the frame, and nothing: 15 comes before 9.
+            for pixels in [4 * noise.pixels.len(), 0] {
+                let lent = Lent::old(pixels, 30, 0x5A);
+                refuses(15, false, image(&noise), &settings, &lent);
+                let nan = Settings {
+                    threshold_rel: f32::NAN,
+                    ..settings
+                };
+                refuses(8, false, image(&noise), &nan, &lent);
+            }
+            has_its_map(&noise);
+        }
+    }
 }
 
 /// The settings' type has two modes alone; the number of another one is judged before all else.
@@ -319,6 +421,11 @@ fn one_frame_after_another() {
         assert_eq!(
             finder.find(image(&board), &far),
             Err(Refusal::SuppressionRadius)
+        );
+        let cropped = frame(Kind::Board, 60, 9);
+        assert_eq!(
+            finder.find(image(&cropped), &settings),
+            Err(Refusal::FrameTooSmall)
         );
         assert_eq!(finder.find(image(&board), &settings), fresh);
     }
@@ -427,6 +534,41 @@ fn the_lists_own_entry() {
         ),
         (8, 0)
     );
+    let wide = Settings {
+        nms_radius: 2,
+        ..DOCUMENT
+    };
+    let sized = |width, height| View {
+        width,
+        height,
+        ..view
+    };
+    for (small, settings) in [
+        (view, wide),
+        (sized(6, 7), DOCUMENT),
+        (sized(7, 6), DOCUMENT),
+        (sized(8_192, 6), DOCUMENT),
+        (sized(8_192, 0), DOCUMENT),
+        (sized(0, 0), DOCUMENT),
+    ] {
+        assert_eq!(asked(small, settings), (15, 0));
+        let nan = Settings {
+            threshold_rel: f32::NAN,
+            ..settings
+        };
+        assert_eq!(asked(small, nan), (8, 0));
+        // Before 9, and whatever the factor, for these sides are the map's.
+        let none = View {
+            response: &[],
+            working: &[],
+            ..small
+        };
+        let doubled = Settings {
+            image_upsample: 2,
+            ..settings
+        };
+        assert_eq!(asked(none, doubled), (15, 0));
+    }
     assert_eq!(
         asked(
             View {
@@ -451,7 +593,7 @@ fn the_lists_own_entry() {
 
 #[test]
 fn numbers_and_names() {
-    for number in (2..=21).filter(|number| *number != 15) {
+    for number in 2..=21 {
         let refusal = Refusal::from_number(number);
         assert_ne!(refusal, Refusal::Unknown(number));
         assert_eq!(refusal.number(), number);
