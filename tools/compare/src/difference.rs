@@ -47,9 +47,13 @@ impl fmt::Display for What {
 /// Floats are given by their bits.
 #[derive(Clone, Debug, PartialEq)]
 pub enum Difference {
-    /// 0 where a program takes the frame.
+    /// What the documents have for a frame, and ours; 0 where it is taken.
     Answer {
         theirs: u32,
+        ours: u32,
+    },
+    /// What our map's own entry refuses a frame with that has a map by the documents.
+    NoMap {
         ours: u32,
     },
     Sizes {
@@ -111,14 +115,24 @@ fn answered(number: u32) -> String {
     }
 }
 
+/// The Rust refuses nothing by itself.
+fn due(number: u32) -> String {
+    match number {
+        0 => "the Rust takes the frame".to_string(),
+        number => format!("the documents refuse with {number}"),
+    }
+}
+
 impl fmt::Display for Difference {
     fn fmt(&self, out: &mut fmt::Formatter<'_>) -> fmt::Result {
         match self {
             Difference::Answer { theirs, ours } => {
+                write!(out, "answer: {}, ours {}", due(*theirs), answered(*ours))
+            }
+            Difference::NoMap { ours } => {
                 write!(
                     out,
-                    "answer: the Rust {}, ours {}",
-                    answered(*theirs),
+                    "map: the Rust has one, our map's entry {}",
                     answered(*ours)
                 )
             }

@@ -22,13 +22,15 @@ compare runs the published Rust and the proved finder over the same frames.
 Answers, working image, tables, map, scratch and list must be equal to the bit. Only the places of
 Gaussian corners may differ: by the bound divided by the peak's curvature (the second difference of
 three logarithms) in working pixels, at most by one pixel, and by one step of an f32.
+A frame that is too small to judge, 15, is taken by the Rust and must be refused by ours, with 15:
+there is no list to compare, but the maps are, all buffers, by the functions that make a map alone.
 Each camera of an arch must be told and given what a single call with its frame is, to the bit, and
 that call is held against the Rust; a tenth of the frames are damaged, and some arches are cut, state
 lengths past their end or have bytes behind them.
 
   --program PATH   runs the proved program `corners` too, which `rt check corners` leaves in
                    target/bin/corners: what it prints must be the Rust's list as document 01 has it
-                   printed, refusals 9 and 10 of its own room among them
+                   printed, or the refusal, 9 and 10 of its own room among them
   --damaged        every second made file is damaged
   --max-side M     made frames with sides up to M; without it they have the program's size
   --bound B        the bound for Gaussian places (default 4e-6)

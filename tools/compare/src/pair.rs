@@ -2,7 +2,7 @@
 
 use std::fmt;
 
-use judge::{accepted, dues, original, sums, Detector, Room};
+use judge::{accepted, dues, original, sums, Detector, Room, TOO_SMALL};
 use steyrbunk::frame::Frame;
 use steyrbunk::{printed, Corner, Finder, Found, Map, PeakFit, Refusal};
 
@@ -26,6 +26,8 @@ pub struct Held {
     pub ours: Result<Found, Refusal>,
     pub differences: Vec<Difference>,
     pub distances: Distances,
+    /// Whether there is no list to compare, for the frame is too small, and the maps were compared alone.
+    pub map_alone: bool,
 }
 
 impl Held {
@@ -64,11 +66,12 @@ impl Held {
             differences: answers(number, &ours).into_iter().collect(),
             ours,
             distances: Distances::default(),
+            map_alone: false,
         }
     }
 }
 
-/// Where a program does not give the other's answer; 0 where it takes the frame.
+/// Where ours is not the answer that is due; 0 where the frame is taken.
 fn answers(theirs: u32, ours: &Result<Found, Refusal>) -> Option<Difference> {
     let ours = ours.as_ref().err().map_or(0, |refusal| refusal.number());
     (theirs != ours).then_some(Difference::Answer { theirs, ours })
@@ -86,6 +89,9 @@ impl fmt::Display for Held {
         match &self.ours {
             Ok(found) => write!(out, ", {} corners", found.corners.len())?,
             Err(refusal) => write!(out, ", refused {}", refusal.number())?,
+        }
+        if self.map_alone {
+            out.write_str(", too small for a list: the maps were compared")?;
         }
         let apart = self.distances.all();
         if apart.coordinates > 0 {
@@ -115,6 +121,7 @@ impl Pair {
         let ours = frame.and_then(|frame| self.ours.find(frame.image, &frame.settings));
         let (theirs, mut differences) = self.theirs(file, ours.is_ok());
         let mut distances = Distances::default();
+        let mut map_alone = false;
         match (&theirs, &ours, frame) {
             (Ok(theirs), Ok(ours), Ok(frame)) => {
                 let gaussian = frame.settings.peak_fit == PeakFit::Gaussian;
@@ -130,6 +137,13 @@ impl Pair {
                         [false; 2]
                     }
                 }));
+            }
+            (Err(TOO_SMALL), ours, Ok(frame)) => {
+                let judged = judge::Frame::parse(file).expect("a frame that was judged");
+                let maps = self.maps_alone(&judged, &frame);
+                map_alone = maps.is_ok();
+                differences.extend(answers(TOO_SMALL, ours));
+                differences.extend(maps.unwrap_or_else(|refused| vec![refused]));
             }
             _ => {
                 let theirs = theirs.as_ref().err().copied().unwrap_or(0);
@@ -151,6 +165,22 @@ impl Pair {
             ours,
             differences,
             distances,
+            map_alone,
+        }
+    }
+
+    /// How the maps of a frame differ that is too small for a list, by the map's own functions; or that ours makes none.
+    fn maps_alone(
+        &mut self,
+        theirs: &judge::Frame,
+        ours: &Frame,
+    ) -> Result<Vec<Difference>, Difference> {
+        let theirs = self.theirs.map(theirs);
+        match self.ours.response(ours.image, &ours.settings) {
+            Ok(ours) => Ok(maps(theirs, ours)),
+            Err(refusal) => Err(Difference::NoMap {
+                ours: refusal.number(),
+            }),
         }
     }
 
@@ -322,6 +352,79 @@ mod tests {
             ours: 0,
         };
         assert_eq!(Held::refused(13, Ok(right)).differences, [answer]);
+    }
+
+    /// A frame that is too small for a list: what ours answers is held to 15, and its map to the Rust's.
+    #[test]
+    fn a_small_frame() {
+        let small = judge::Frame {
+            width: 6,
+            blur: 1,
+            pixels: (0..42).collect(),
+            ..judge::document_frame()
+        };
+        let mut pair = Pair::new(0.0);
+        let held = pair.hold(&small.bytes());
+        assert_eq!(held.theirs, Err(15));
+        assert_eq!(held.ours, Err(Refusal::FrameTooSmall));
+        assert_eq!(
+            held.to_string(),
+            "agreed, refused 15, too small for a list: the maps were compared"
+        );
+        // A ramp has no response; another last pixel gives it one, and is seen in every buffer.
+        let mut other = small.clone();
+        other.pixels[41] += 1;
+        let file = other.bytes();
+        let frame = Frame::parse(&file).expect("a frame");
+        let differences = pair.maps_alone(&small, &frame).expect("two maps");
+        let named: Vec<What> = differences.iter().map(entry).collect();
+        let all = [
+            What::Working,
+            What::RowTable,
+            What::ColumnTable,
+            What::FallingTable,
+            What::RisingTable,
+            What::Response,
+            What::Scratch,
+        ];
+        assert_eq!(named, all);
+        let mut frame = Frame::parse(&file).expect("a frame");
+        frame.settings.ray_radius = 8;
+        let none = pair.maps_alone(&small, &frame);
+        assert_eq!(none, Err(Difference::NoMap { ours: 5 }));
+        assert_eq!(
+            Difference::NoMap { ours: 5 }.to_string(),
+            "map: the Rust has one, our map's entry refuses with 5"
+        );
+    }
+
+    fn entry(difference: &Difference) -> What {
+        match difference {
+            Difference::Entry { what, .. } => *what,
+            other => panic!("{other}"),
+        }
+    }
+
+    /// Ours that takes a frame which is too small, or refuses one which is not.
+    #[test]
+    fn the_least_size() {
+        let found = Found {
+            corners: Vec::new(),
+            width: 6,
+            height: 6,
+        };
+        let difference = answers(15, &Ok(found)).expect("another answer");
+        assert_eq!(
+            difference.to_string(),
+            "answer: the documents refuse with 15, ours takes the frame"
+        );
+        let difference = answers(0, &Err(Refusal::FrameTooSmall)).expect("another answer");
+        assert_eq!(
+            difference.to_string(),
+            "answer: the Rust takes the frame, ours refuses with 15"
+        );
+        assert_eq!(answers(15, &Err(Refusal::FrameTooSmall)), None);
+        assert!(answers(15, &Err(Refusal::BufferTooShort)).is_some());
     }
 
     /// One entry changed in each buffer in turn: it is found where it stands, and named.

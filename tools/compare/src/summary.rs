@@ -3,6 +3,8 @@
 use std::collections::BTreeMap;
 use std::fmt;
 
+use judge::TOO_SMALL;
+
 use crate::gaussian::{Distances, CURVATURES, DOUBLINGS, FLAT};
 use crate::pair::Held;
 
@@ -24,6 +26,8 @@ pub struct Summary {
     pub unread: u64,
     corners: u64,
     refused: BTreeMap<u32, u64>,
+    /// Refused frames whose maps were compared all the same.
+    maps_alone: u64,
     distances: Distances,
 }
 
@@ -32,6 +36,7 @@ impl Summary {
         self.frames += 1;
         self.differ += u64::from(!held.differences.is_empty());
         self.distances.join(&held.distances);
+        self.maps_alone += u64::from(held.map_alone);
         match &held.theirs {
             Ok(found) => self.corners += found.corners.len() as u64,
             Err(number) => *self.refused.entry(*number).or_default() += 1,
@@ -122,10 +127,6 @@ impl fmt::Display for Summary {
             corners,
             ..
         } = self;
-        let documents = match self.arches {
-            0 => "document 01",
-            _ => "documents 01 and 02",
-        };
         let refused: u64 = self.refused.values().sum();
         if self.arches > 0 {
             writeln!(out, "{} arches, each camera a frame:", self.arches)?;
@@ -137,7 +138,7 @@ impl fmt::Display for Summary {
         )?;
         writeln!(
             out,
-            "the Rust: {} with {corners} corners, {refused} refused by {documents}",
+            "the Rust: {} with {corners} corners, {refused} refused by documents 01 and 02",
             frames - refused
         )?;
         if refused > 0 {
@@ -149,6 +150,13 @@ impl fmt::Display for Summary {
                 out,
                 "refused by number: {}",
                 each.collect::<Vec<_>>().join(", ")
+            )?;
+        }
+        if self.maps_alone > 0 {
+            writeln!(
+                out,
+                "too small for a list: {}, refused {TOO_SMALL}; their maps were compared",
+                self.maps_alone
             )?;
         }
         self.distances(out)

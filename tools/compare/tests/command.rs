@@ -4,7 +4,7 @@ use std::fs;
 use std::path::{Path, PathBuf};
 use std::process::{Command, Output};
 
-use judge::{document_frame, made_arch, make, Sizes};
+use judge::{accepted, damaged, document_frame, made_arch, make, Frame, Room, Sizes, TOO_SMALL};
 
 /// An empty folder for one test.
 fn folder(name: &str) -> PathBuf {
@@ -30,6 +30,7 @@ fn made_frames() {
     );
     assert_eq!(status, 0, "{text}");
     assert!(text.contains("400 frames: 400 agreed, 0 differ, 0 could not be read"));
+    assert_eq!(told_small(&text), small((100..500).map(|at| make(31, at))));
     // What `tools/lean` reads: the last line, with coordinates, mean distance, mean lean and the greatest.
     let all: Vec<&str> = text.lines().last().unwrap().split_whitespace().collect();
     let numbers = all[1..].iter().map(|word| word.parse::<f64>());
@@ -48,6 +49,74 @@ fn made_frames() {
     );
     assert_eq!(status, 0, "{text}");
     assert!(text.contains("seed 31, index 2: agreed"));
+}
+
+/// How many of these are too small for a list by the documents; some are.
+fn small(files: impl Iterator<Item = Vec<u8>>) -> usize {
+    let is_small = |file: &Vec<u8>| accepted(file, Room::FREE) == Err(TOO_SMALL);
+    let count = files.filter(is_small).count();
+    assert!(count > 0);
+    count
+}
+
+/// How many the report tells of.
+fn told_small(text: &str) -> usize {
+    let is_told = |line: &&str| line.ends_with(", refused 15; their maps were compared");
+    let line = text.lines().find(is_told).expect("a line of its own");
+    let count = line.strip_prefix("too small for a list: ").unwrap();
+    count.split(',').next().unwrap().parse().unwrap()
+}
+
+/// Document 01's frame cut to six by seven: its height is enough, its width is at twice the border.
+fn cut() -> Frame {
+    let document = document_frame();
+    let pixels = (0..42).map(|at| document.pixels[at / 6 * 7 + at % 6]);
+    Frame {
+        width: 6,
+        pixels: pixels.collect(),
+        ..document
+    }
+}
+
+/// Frames that are too small, from every source: no list, and their maps agree.
+#[test]
+fn small_frames() {
+    let folder = folder("small");
+    let agreed = ": agreed, refused 15, too small for a list: the maps were compared\n";
+    let none = Frame {
+        height: 0,
+        pixels: Vec::new(),
+        ..cut()
+    };
+    fs::create_dir_all(folder.join("frames")).unwrap();
+    fs::write(folder.join("frames/a.frame"), cut().bytes()).unwrap();
+    fs::write(folder.join("frames/b.frame"), none.bytes()).unwrap();
+    fs::write(folder.join("frames/c.frame"), document_frame().bytes()).unwrap();
+    let (text, status) = run(&folder, &["--lists", "frames"]);
+    assert_eq!((status, told_small(&text)), (0, 2), "{text}");
+    let lists = "the Rust:\nrefused 15\nours:\nrefused 15\n";
+    for name in ["a", "b"] {
+        let told = format!("frames/{name}.frame{agreed}{lists}");
+        assert!(text.contains(&told), "{text}");
+    }
+    assert!(text.contains("the Rust: 1 with 1 corners, 2 refused by documents 01 and 02\n"));
+    assert!(text.contains("refused by number: 15: 2\n"));
+    let archive = [cut().bytes(), document_frame().bytes(), none.bytes()].concat();
+    fs::write(folder.join("archive"), archive).unwrap();
+    let (text, status) = run(&folder, &["--archive", "archive"]);
+    assert_eq!((status, told_small(&text)), (0, 2), "{text}");
+    assert!(text.contains(&format!("archive, frame 2{agreed}")));
+    let words = ["--seed", "9", "--count", "200", "--damaged"];
+    let (text, status) = run(&folder, &words);
+    let file = |at: u64| [make, damaged][at as usize % 2](9, at);
+    assert_eq!(
+        (status, told_small(&text)),
+        (0, small((0..200).map(file))),
+        "{text}"
+    );
+    let (text, status) = run(&folder, &["frames/c.frame"]);
+    assert_eq!(status, 0);
+    assert!(!text.contains("too small"), "{text}");
 }
 
 /// With a bound that no distance meets, each Gaussian place that is not equal is a difference: named, kept, counted.
@@ -102,6 +171,12 @@ fn arches() {
     for number in [11, 13] {
         assert!(text.contains(&format!("agreed, refused {number}\n")));
     }
+    let cameras = (0..200).map(|index| made_arch(33, index, Sizes::PROGRAM));
+    let whole = |(cameras, frames): (usize, Vec<u8>)| {
+        let whole = judge::dues(cameras, &frames).into_iter().flatten();
+        whole.map(<[u8]>::to_vec).collect::<Vec<_>>()
+    };
+    assert_eq!(told_small(&text), small(cameras.flat_map(whole)));
     let words = [
         "--arch", "--seed", "1", "--count", "60", "--bound", "-1", "--keep", "kept",
     ];
@@ -182,7 +257,7 @@ fn pictures() {
     let (text, status) = run(&folder, &["both/a.pgm"]);
     assert_eq!(status, 0, "{text}");
     assert!(
-        text.contains("both/a.pgm: agreed, 0 corners"),
+        text.contains("both/a.pgm: agreed, refused 15, too small for a list"),
         "the defaults: {text}"
     );
     for (name, content) in [
@@ -245,6 +320,19 @@ fn the_program_itself() {
     }
     let (text, status) = run(&folder, &["--program", "/nowhere/corners", "a.frame"]);
     assert_eq!(status, 1, "{text}");
+    // A frame that is too small is refused by the program, not searched.
+    fs::write(folder.join("small.frame"), cut().bytes()).unwrap();
+    for (script, expected) in [
+        ("cat >/dev/null; echo refused 15", 0),
+        ("cat >/dev/null; echo 6 7 0", 1),
+        ("cat >/dev/null; echo refused 9", 1),
+    ] {
+        let program = program("small", script);
+        let (text, status) = run(&folder, &["--program", &program, "small.frame"]);
+        assert_eq!((status, told_small(&text)), (expected, 1), "{text}");
+        let line = "line 1: the Rust's would be 'refused 15\\n', the program prints '";
+        assert_eq!(text.contains(line), expected == 1, "{text}");
+    }
     // Damaged files among made ones: this one refuses all that it is given, as none of the sound ones should be.
     let refuses = program("refuses", "cat >/dev/null; echo refused 13");
     let (text, status) = run(

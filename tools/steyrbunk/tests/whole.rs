@@ -5,7 +5,7 @@ mod common;
 use common::{frame, image};
 use compare::{Pair, BOUND};
 use judge::{Frame, Kind};
-use steyrbunk::{Finder, PeakFit, Settings};
+use steyrbunk::{Finder, PeakFit, Refusal, Settings};
 
 /// Holds a frame against the original.
 fn agrees(pair: &mut Pair, frame: &Frame) -> usize {
@@ -46,8 +46,8 @@ fn other_shapes() {
     let mut pair = Pair::new(BOUND);
     for (width, height) in [
         (2_048, 4_096),
-        (4_096, 1),
-        (1, 4_096),
+        (4_096, 7),
+        (7, 4_096),
         (640, 480),
         (1_283, 957),
     ] {
@@ -57,17 +57,23 @@ fn other_shapes() {
     }
 }
 
+/// Refused, 15; the maps are the same, through the map's own functions.
 #[test]
-fn sides_of_none() {
+fn too_small_for_a_list() {
     let mut pair = Pair::new(BOUND);
-    for (width, height) in [(0, 0), (0, 7), (7, 0), (0, 4_096), (4_096, 0)] {
+    let sides = [0, 1, 6].map(|side| [(side, 4_096), (4_096, side), (side, 7), (side, side)]);
+    for (width, height) in sides.concat() {
         for (upsampling, blur) in [(1, 0), (2, 0), (1, 3), (2, 1)] {
-            let empty = Frame {
+            let small = Frame {
                 upsampling,
                 blur,
-                ..frame(Kind::Flat, width, height)
+                // At factor 2 the border is that of twice the side.
+                suppression: if upsampling == 1 { 1 } else { 4 },
+                ..frame(Kind::Random, width, height)
             };
-            assert_eq!(agrees(&mut pair, &empty), 0);
+            let held = pair.hold(&small.bytes());
+            assert!(held.differences.is_empty() && held.map_alone, "{held}");
+            assert_eq!(held.ours, Err(Refusal::FrameTooSmall));
         }
     }
 }
