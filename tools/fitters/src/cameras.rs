@@ -29,7 +29,7 @@ fn taken_apart(frames: &[u8]) -> impl Iterator<Item = Option<Frame<'_>>> {
 fn lone(together: Option<usize>, planned: &[Planned]) -> Option<Problem> {
     let advice = "frame files end to end in one file go with --cameras";
     let is_lone = together.is_none() && planned.len() == 1;
-    is_lone.then_some(Problem::Advised(Refusal::Cameras, advice))
+    is_lone.then(|| Problem::Advised(Refusal::Cameras, advice.to_string()))
 }
 
 impl Worker<'_> {
@@ -119,8 +119,8 @@ impl Worker<'_> {
         done: &mut Done,
     ) -> Result<Found, Problem> {
         let image = frame.map(|frame| frame.image);
-        let found =
-            answer.map_err(|refusal| directed(advised(refusal, image), planned.frame.spoken()))?;
+        let advised = |refusal| advised(refusal, frame.as_ref());
+        let found = answer.map_err(|refusal| directed(advised(refusal), planned.frame.spoken()))?;
         self.hand_on(planned, found, image, done)
     }
 }

@@ -42,25 +42,30 @@ fn made(call: &FrameCall) -> Result<Vec<u8>, Problem> {
     }
     let frame = frames::open(&call.picture, &file, &call.named, false)?;
     let made = frames::file(&frame)?;
-    for limit in exceeded(&frame, made.len()) {
+    if let Some(limit) = missed(&frame, made.len()) {
         eprintln!("{}: note: {limit}", shown(&call.picture));
     }
     Ok(made)
 }
 
-/// The limits of the program that a frame is over.
-fn exceeded(frame: &Frame, length: usize) -> Vec<String> {
-    let factor = frame.settings.factor();
-    let pixels = frame.image.width * frame.image.height * factor * factor;
-    let mut limits = Vec::new();
+/// The first limit of size, in the program's order, that a frame does not keep.
+fn missed(frame: &Frame, length: usize) -> Option<String> {
+    let Frame { image, settings } = frame;
+    let (factor, side) = (settings.factor(), settings.least_side());
+    let pixels = image.width * image.height * factor * factor;
     if length > PROGRAM_BYTES {
-        limits.push(format!(
+        Some(format!(
             "{length} bytes: the program `corners` has room for {PROGRAM_BYTES} and answers 10"
-        ));
+        ))
+    } else if image.width.min(image.height) < side {
+        Some(format!(
+            "too small to judge, 15: these settings need {side} by {side} pixels"
+        ))
     } else if pixels > PROGRAM_PIXELS {
-        limits.push(format!(
+        Some(format!(
             "{pixels} working pixels: the program `corners` has room for {PROGRAM_PIXELS} and answers 9"
-        ));
+        ))
+    } else {
+        None
     }
-    limits
 }

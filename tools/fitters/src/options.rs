@@ -73,9 +73,9 @@ run.json of the run before and all results that it names. Nothing else is remove
 a result's place stays, is named, and its frame has no list. A run that is cut off leaves a
 run.plan, by which the next run clears up. Two runs do not write to one folder at a time.
 
-Status. 0 if every frame has a list; 1 if one was refused, damaged, gone since the run before, or
-could not be read or written: its name and the reason, with the number of a refusal, are on standard
-error; 2 if the words of the call are wrong.
+Status. 0 if every frame has a list, which may be empty; 1 if one was refused, damaged, gone since
+the run before, or could not be read or written: its name and the reason, with the number of a
+refusal, are on standard error; 2 if the words of the call are wrong.
 ";
 
 /// What is asked for.

@@ -174,11 +174,11 @@ impl Worker<'_> {
         file: &'a [u8],
         done: &mut Done,
     ) -> Result<(Found, Option<Image<'a>>), Problem> {
-        let Opened { image, settings } = self.opened(frame, file, done)?;
-        let found = self.finder.find(image, &settings);
+        let opened = self.opened(frame, file, done)?;
+        let found = self.finder.find(opened.image, &opened.settings);
         let found =
-            found.map_err(|refusal| directed(advised(refusal, Some(image)), frame.spoken()))?;
-        Ok((found, Some(image)))
+            found.map_err(|refusal| directed(advised(refusal, Some(&opened)), frame.spoken()))?;
+        Ok((found, Some(opened.image)))
     }
 
     /// The picture in a file with the settings that it is searched with.
@@ -244,11 +244,6 @@ impl Worker<'_> {
         let Some(image) = image.filter(|_| !drawings.is_empty()) else {
             return Ok(());
         };
-        if image.pixels.is_empty() {
-            done.notes
-                .push("nothing to draw: the picture has no pixels".to_string());
-            return Ok(());
-        }
         for (drawing, result) in drawings.iter().zip(&results[1..]) {
             written(result, &drawn(drawing, image, found))?;
         }
@@ -267,18 +262,35 @@ fn drawn(drawing: &Drawing, image: Image, found: &Found) -> Vec<u8> {
 pub fn directed(problem: Problem, path: &Path) -> Problem {
     match problem {
         Problem::Refused(refusal) if path.extension() == Some(record::ENDING.as_ref()) => {
-            Problem::Advised(refusal, "a record is printed by steyrbunk read")
+            let advice = "a record is printed by steyrbunk read";
+            Problem::Advised(refusal, advice.to_string())
         }
         _ => problem,
     }
 }
 
-/// A frame that is too large doubled may do as it is.
-pub fn advised(refusal: Refusal, image: Option<Image>) -> Problem {
-    match (refusal, image) {
-        (Refusal::TooManyPixels, Some(image)) if image.pixels.len() <= limits::WORKING => {
-            Problem::Advised(refusal, "--image-upsample 1 would do")
-        }
-        _ => Problem::Refused(refusal),
+/// What would help a frame that is too large or too small.
+pub fn advised(refusal: Refusal, frame: Option<&Opened>) -> Problem {
+    let advice = match (refusal, frame) {
+        (Refusal::TooManyPixels, Some(frame)) => undoubled(frame),
+        (Refusal::FrameTooSmall, Some(frame)) => Some(least(frame)),
+        _ => None,
+    };
+    match advice {
+        Some(advice) => Problem::Advised(refusal, advice),
+        None => Problem::Refused(refusal),
     }
+}
+
+/// A frame that is too large doubled may do as it is.
+fn undoubled(frame: &Opened) -> Option<String> {
+    let fits = frame.image.pixels.len() <= limits::WORKING;
+    fits.then(|| "--image-upsample 1 would do".to_string())
+}
+
+/// What a frame has and needs, in the pixels that a camera is set in.
+fn least(frame: &Opened) -> String {
+    let Image { width, height, .. } = frame.image;
+    let side = frame.settings.least_side();
+    format!("it has {width} by {height} pixels and needs {side} by {side} with these settings")
 }

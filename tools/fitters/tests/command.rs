@@ -330,8 +330,129 @@ fn openings_and_ends() {
         );
     }
     // A pixel that looks like a comment's sign is a pixel.
-    fs::write(folder.join("hash.pgm"), b"P5 3 1 255\n#\n#").unwrap();
-    assert_eq!(out(&run(&folder, &["hash.pgm"])), "6 2 0\n");
+    let hashes = Frame {
+        pixels: [&b"#\n".repeat(24)[..], b"#"].concat(),
+        ..document_frame()
+    };
+    let file = [b"P5 7 7 255\n", &hashes.pixels[..]].concat();
+    fs::write(folder.join("hash.pgm"), file).unwrap();
+    fs::write(folder.join("hash.frame"), hashes.bytes()).unwrap();
+    let output = run(&folder, &[&SETTINGS[..], &["hash.pgm"]].concat());
+    assert_eq!((status(&output), error(&output)), (0, String::new()));
+    assert_eq!(out(&output), out(&run(&folder, &["hash.frame"])));
+}
+
+/// What a fitter reads of a frame that is too small to judge.
+const TOO_SMALL: &str =
+    "the frame is too small to judge: its working width or height is at most twice \
+    (ray + suppression + 1); look at the crop, the camera mode and the radii, not at the panel";
+
+/// A grey picture: an empty panel, if it is large enough.
+fn grey(width: usize, height: usize) -> Vec<u8> {
+    let head = format!("P5 {width} {height} 255\n");
+    [head.as_bytes(), &vec![100; width * height]].concat()
+}
+
+/// A camera that is cropped too far has no list, none from yesterday either, and is told as what it is in every format; one
+/// pixel more is an empty list.
+#[test]
+fn a_cropped_camera() {
+    let folder = folder("cropped");
+    let (frames, lists) = (folder.join("frames"), folder.join("lists"));
+    fs::create_dir_all(&frames).unwrap();
+    let call = |format: &'static str| {
+        let words = [
+            "--quiet", "--out", "lists", "--draw", "svg", "--draw", "png",
+        ];
+        run(
+            &folder,
+            &[&words[..], &["--format", format, "frames"]].concat(),
+        )
+    };
+    for format in ["list", "csv", "json", "record"] {
+        fs::write(frames.join("dawn.pgm"), grey(10, 10)).unwrap();
+        let output = call(format);
+        assert_eq!((status(&output), error(&output)), (0, String::new()));
+        assert_eq!(results(&lists, "dawn.pgm").len(), 3);
+        fs::write(frames.join("dawn.pgm"), grey(9, 40)).unwrap();
+        let output = call(format);
+        let need = "it has 9 by 40 pixels and needs 10 by 10 with these settings";
+        let message = format!("frames/dawn.pgm: refused 15: {TOO_SMALL}; {need}\n");
+        assert_eq!((status(&output), error(&output)), (1, message));
+        assert!(results(&lists, "dawn.pgm").is_empty());
+        let manifest = fs::read_to_string(lists.join("run.json")).unwrap();
+        for told in [
+            "\"answer\":15,".to_string(),
+            format!("\"words\":\"refused 15: {TOO_SMALL}; {need}\","),
+            "\"count\":0,\"results\":[]".to_string(),
+        ] {
+            assert!(manifest.contains(&told), "{told}: {manifest}");
+        }
+        let output = run(&folder, &["--format", format, "frames/dawn.pgm"]);
+        let printed = match format {
+            "list" => "refused 15\n".to_string(),
+            "csv" => "file,corner,x,y,strength\n".to_string(),
+            "json" => format!(
+                "{{\"file\":\"frames/dawn.pgm\",\"refused\":15,\"reason\":\"{TOO_SMALL}\"}}\n"
+            ),
+            _ => String::new(),
+        };
+        assert_eq!((out(&output), status(&output)), (printed, 1));
+    }
+}
+
+/// The least sizes for settings, by width and by height, of pictures and of frame files; and of cameras of an arch.
+#[test]
+fn the_least_sizes() {
+    let folder = folder("least");
+    let printed = |width, height, words: &[&str]| {
+        fs::write(folder.join("a.pgm"), grey(width, height)).unwrap();
+        let output = run(&folder, &[words, &["a.pgm"]].concat());
+        (out(&output), status(&output))
+    };
+    let small = || ("refused 15\n".to_string(), 1);
+    let radii = ["--ray-radius=7", "--nms-radius=32"];
+    for (least, factor, words) in [
+        (10, 2, &[][..]),
+        (19, 1, &["--image-upsample=1"]),
+        (7, 1, &SETTINGS),
+        (7, 1, &[&SETTINGS[..], &["--ray-radius=0"]].concat()),
+        (41, 2, &radii),
+        (81, 1, &[&radii[..], &["--image-upsample=1"]].concat()),
+    ] {
+        let side = factor * least;
+        let list = format!("{side} {side} 0\n");
+        assert_eq!(printed(least, least, words), (list, 0), "{words:?}");
+        assert_eq!(printed(least - 1, least, words), small(), "{words:?}");
+        assert_eq!(printed(least, least - 1, words), small(), "{words:?}");
+    }
+    let none = Frame {
+        width: 0,
+        pixels: Vec::new(),
+        ..document_frame()
+    };
+    fs::write(folder.join("none.frame"), none.bytes()).unwrap();
+    let output = run(&folder, &["none.frame"]);
+    assert_eq!((out(&output), status(&output)), small());
+    assert!(
+        error(&output).ends_with("; it has 0 by 7 pixels and needs 7 by 7 with these settings\n")
+    );
+    // The cameras beside them are found as ever.
+    fs::write(folder.join("b.frame"), document_frame().bytes()).unwrap();
+    fs::write(folder.join("c.pgm"), grey(9, 40)).unwrap();
+    let cameras = ["none.frame", "b.frame", "c.pgm"];
+    let output = run(&folder, &[&["arch", "--quiet"][..], &cameras].concat());
+    let expected = format!(
+        "# camera 1: none.frame\nrefused 15: {TOO_SMALL}\n# camera 2: b.frame\n{DOCUMENT}\
+         # camera 3: c.pgm\nrefused 15: {TOO_SMALL}\n"
+    );
+    assert_eq!((out(&output), status(&output)), (expected, 1));
+    let message = error(&output);
+    assert!(message.contains("camera 3: c.pgm: refused 15: ") && message.contains(" has 9 by 40 "));
+    let words = ["arch", "--quiet", "--format", "csv"];
+    let output = run(&folder, &[&words[..], &cameras].concat());
+    let line = format!("3,c.pgm,15,\"{TOO_SMALL}\",,,,\n");
+    assert!(out(&output).ends_with(&line), "{}", out(&output));
 }
 
 /// A large frame that would do without doubling is told so.
@@ -382,6 +503,21 @@ fn frame_files_of_pictures() {
     assert_eq!(output.stdout.len(), 2360);
     fs::write(folder.join("small.pgm"), picture(30, 30)).unwrap();
     assert!(error(&run(&folder, &["frame", "small.pgm"])).contains("3600 working pixels"));
+    fs::write(folder.join("cropped.pgm"), picture(600, 9)).unwrap();
+    fs::write(folder.join("least.pgm"), picture(10, 10)).unwrap();
+    let note = "note: too small to judge, 15: these settings need 10 by 10 pixels";
+    let output = run(&folder, &["frame", "--image-upsample=2", "cropped.pgm"]);
+    assert_eq!(
+        error(&output),
+        "cropped.pgm: note: 5420 bytes: the program `corners` has room for 2324 and answers 10\n"
+    );
+    fs::write(folder.join("cropped.pgm"), picture(200, 9)).unwrap();
+    let output = run(&folder, &["frame", "cropped.pgm"]);
+    assert_eq!(
+        (error(&output), output.stdout.len()),
+        (format!("cropped.pgm: {note}\n"), 1820)
+    );
+    assert_eq!(error(&run(&folder, &["frame", "least.pgm"])), "");
     let output = run(&folder, &["frame", "--ray-radius", "256", "small.pgm"]);
     assert!(error(&output).contains("no room for such sizes or settings"));
     for words in [
@@ -1319,16 +1455,12 @@ fn drawings() {
         (at(399, 399), at(403, 399), at(399, 395)),
         (&[230, 0, 30][..], &[230, 0, 30][..], &[230, 0, 30][..])
     );
-    let empty = Frame {
-        width: 0,
-        pixels: Vec::new(),
-        ..document_frame()
-    };
-    fs::write(folder.join("none.frame"), empty.bytes()).unwrap();
-    let output = run(&folder, &["--beside", "--draw", "png", "none.frame"]);
-    assert_eq!(status(&output), 0);
-    assert!(error(&output).contains("none.frame: nothing to draw"));
-    assert_eq!(results(&folder, "none.frame"), ["none.frame.corners"]);
+    // The smallest that is drawn: one that has no pixels has no list either.
+    fs::write(folder.join("empty.frame"), blank()).unwrap();
+    let output = run(&folder, &["--beside", "--draw", "png", "empty.frame"]);
+    assert_eq!((status(&output), error(&output)), (0, String::new()));
+    let drawn = fs::read(folder.join("empty.frame.png")).unwrap();
+    assert_eq!(pixels(&drawn), (798, 798, vec![0; 3 * 798 * 798]));
 }
 
 #[test]

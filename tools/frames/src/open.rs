@@ -15,7 +15,7 @@ use crate::pgm;
 pub enum Problem {
     Refused(Refusal),
     /// The same, with what would help.
-    Advised(Refusal, &'static str),
+    Advised(Refusal, String),
     /// Neither a picture that is known nor a frame file of the known version.
     Strange,
     /// The file cannot be read, or is no picture; results cannot be written.
