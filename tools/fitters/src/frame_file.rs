@@ -59,7 +59,7 @@ fn missed(frame: &Frame, length: usize) -> Option<String> {
         ))
     } else if image.width.min(image.height) < side {
         Some(format!(
-            "too small to judge, 15: these settings need {side} by {side} pixels"
+            "too small to judge, 15: with these settings each side needs {side} pixels or more"
         ))
     } else if pixels > PROGRAM_PIXELS {
         Some(format!(

@@ -292,5 +292,7 @@ fn undoubled(frame: &Opened) -> Option<String> {
 fn least(frame: &Opened) -> String {
     let Image { width, height, .. } = frame.image;
     let side = frame.settings.least_side();
-    format!("it has {width} by {height} pixels and needs {side} by {side} with these settings")
+    format!(
+        "it has {width} by {height} pixels, and with these settings each side needs {side} or more"
+    )
 }

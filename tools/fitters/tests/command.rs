@@ -376,7 +376,7 @@ fn a_cropped_camera() {
         assert_eq!(results(&lists, "dawn.pgm").len(), 3);
         fs::write(frames.join("dawn.pgm"), grey(9, 40)).unwrap();
         let output = call(format);
-        let need = "it has 9 by 40 pixels and needs 10 by 10 with these settings";
+        let need = "it has 9 by 40 pixels, and with these settings each side needs 10 or more";
         let message = format!("frames/dawn.pgm: refused 15: {TOO_SMALL}; {need}\n");
         assert_eq!((status(&output), error(&output)), (1, message));
         assert!(results(&lists, "dawn.pgm").is_empty());
@@ -434,9 +434,8 @@ fn the_least_sizes() {
     fs::write(folder.join("none.frame"), none.bytes()).unwrap();
     let output = run(&folder, &["none.frame"]);
     assert_eq!((out(&output), status(&output)), small());
-    assert!(
-        error(&output).ends_with("; it has 0 by 7 pixels and needs 7 by 7 with these settings\n")
-    );
+    let needs = "; it has 0 by 7 pixels, and with these settings each side needs 7 or more\n";
+    assert!(error(&output).ends_with(needs), "{}", error(&output));
     // The cameras beside them are found as ever.
     fs::write(folder.join("b.frame"), document_frame().bytes()).unwrap();
     fs::write(folder.join("c.pgm"), grey(9, 40)).unwrap();
@@ -505,7 +504,8 @@ fn frame_files_of_pictures() {
     assert!(error(&run(&folder, &["frame", "small.pgm"])).contains("3600 working pixels"));
     fs::write(folder.join("cropped.pgm"), picture(600, 9)).unwrap();
     fs::write(folder.join("least.pgm"), picture(10, 10)).unwrap();
-    let note = "note: too small to judge, 15: these settings need 10 by 10 pixels";
+    let note =
+        "note: too small to judge, 15: with these settings each side needs 10 pixels or more";
     let output = run(&folder, &["frame", "--image-upsample=2", "cropped.pgm"]);
     assert_eq!(
         error(&output),

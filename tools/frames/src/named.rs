@@ -20,7 +20,7 @@ pub fn settings_help() -> String {
         "\
 Settings, for PGM pictures; a frame file has its own. A frame whose working width or height is at
 most twice (ray + suppression + 1) is too small to judge and is refused, 15, where an empty panel
-has an empty list: with the defaults it needs {side} by {side} pixels.
+has an empty list: with the defaults each side needs {side} pixels or more.
   --ray-radius N             0 to {rays}, default {ray}; half length of the rays, in working pixels
   --image-upsample N         1 or 2, default {up}; working pixels along an input pixel
   --response-blur-radius N   0 to {blurs}, default {blur}
