@@ -261,7 +261,9 @@ fn drawn(drawing: &Drawing, image: Image, found: &Found) -> Vec<u8> {
 /// A record looks like a frame file by its first byte; its name tells what it is.
 pub fn directed(problem: Problem, path: &Path) -> Problem {
     match problem {
-        Problem::Refused(refusal) if path.extension() == Some(record::ENDING.as_ref()) => {
+        Problem::Refused(refusal) | Problem::Advised(refusal, _)
+            if path.extension() == Some(record::ENDING.as_ref()) =>
+        {
             let advice = "a record is printed by steyrbunk read";
             Problem::Advised(refusal, advice.to_string())
         }

@@ -905,11 +905,17 @@ fn damaged_records() {
     // A frame file is no record, and a record no frame; a record's name says what to do.
     fs::write(folder.join("a.frame"), document_frame().bytes()).unwrap();
     assert!(error(&run(&folder, &["read", "a.frame"])).contains("a.frame: refused 18: "));
-    let message = error(&run(&folder, &["kept/0000.record"]));
-    assert!(
-        message.ends_with("; a record is printed by steyrbunk read\n"),
-        "{message}"
-    );
+    // The second could be a frame of five pixels, which is too small.
+    let frame_like = record_of("5 1 1\n01000000 00000000 00000000\n");
+    fs::write(folder.join("frame-like.record"), frame_like).unwrap();
+    for (name, number) in [("kept/0000.record", 14), ("frame-like.record", 15)] {
+        let message = error(&run(&folder, &[name]));
+        assert!(message.starts_with(&format!("{name}: refused {number}: ")));
+        assert!(
+            message.ends_with("; a record is printed by steyrbunk read\n"),
+            "{message}"
+        );
+    }
 }
 
 /// The greatest record, one corner more, and files that no record can be.
