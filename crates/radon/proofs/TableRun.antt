@@ -26,6 +26,7 @@ use Rattle.peak_fit.specs.PeakFit.{fitOf}
 use Rattle.crests.specs.Maximum.{maximum}
 use Rattle.verdict.specs.Verdict.{verdict}
 use Rattle.detect.specs.Corners.{corners, floorOf, inputAt, numbers}
+use Rattle.detect.specs.Detected.{workingRefusal, peaksRefusal}
 use Rattle.radon.specs.Finder.{found}
 use Rattle.radon.proofs.TableP.{frame}
 
@@ -56,9 +57,12 @@ framed = settings 1 0 1 fraction
 abbrev pub answerTo : ℕ → ℕ → RadonDetectorParams → ℕ
 answerTo w h p = numberOf (refusalOf w h (w * h) p (sideOf w p * sideOf h p))
 
--- the same of the map's own entry
+-- the same of the map's own entry, and of the list's own for a map and an image of w by h working pixels
 abbrev pub mapAnswerTo : ℕ → ℕ → RadonDetectorParams → ℕ
 mapAnswerTo w h p = numberOf (mapRefusalOf w h (w * h) p (sideOf w p * sideOf h p))
+
+abbrev pub listAnswerTo : ℕ → ℕ → RadonDetectorParams → ℕ
+listAnswerTo w h p = numberOf (peaksRefusal w h p (w * h))
 
 -- "radii 7, 3, 32": the border is 40
 abbrev widest : RadonDetectorParams
@@ -78,7 +82,7 @@ computed =
     ∷ answerTo 81 81 (settings 8 3 32 fraction) ∷ answerTo 81 81 (settings 7 4 32 fraction) ∷ answerTo 81 81 (settings 7 3 33 fraction)
     -- a threshold of NaN
     ∷ answerTo 7 7 (settings 1 0 1 0x7fc0_0000)
-    -- the frame cut to 6 by 6, and by one side alone; sides of 0; a side of 80 at the widest radii; 3 by 4 and 4 by 4, whose working sides are doubled
+    -- the frame cut to 6 by 6, and by one side alone; sides of 0; a side of 80 at the widest radii; 3 by 4 and 4 by 4 at factor 2
     ∷ answerTo 6 6 framed ∷ answerTo 6 7 framed ∷ answerTo 7 6 framed
     ∷ answerTo 0 0 framed ∷ answerTo 0 7 framed ∷ answerTo 7 0 framed
     ∷ answerTo 80 81 widest ∷ answerTo 81 80 widest
@@ -89,6 +93,8 @@ computed =
     ∷ answerTo 6 6 (settings 1 0 1 0x7fc0_0000) ∷ numberOf (refusalOf 6 6 36 framed 0) ∷ numberOf (refusalOf 7 7 49 framed 0)
     -- the map's own entry, on 6 by 6 and on sides of 0
     ∷ mapAnswerTo 6 6 framed ∷ mapAnswerTo 0 0 framed
+    -- the list's own, on 6 by 6, on sides of 0, with no room, and on 7 by 7
+    ∷ listAnswerTo 6 6 framed ∷ listAnswerTo 0 0 framed ∷ numberOf (peaksRefusal 6 6 framed 0) ∷ listAnswerTo 7 7 framed
     -- how many numbers the list has at threshold 1.0
     ∷ length (listed 7 7 (settings 1 0 1 0x3f80_0000))
     -- the frame's own list
@@ -115,13 +121,15 @@ stated =
     ∷ 8 ∷ 15 ∷ 9
     -- takes both
     ∷ 0 ∷ 0
+    -- 15, 15, 15, passes
+    ∷ 15 ∷ 15 ∷ 15 ∷ 0
     -- finds none
     ∷ 0
     -- "40400000 40400000 481C4000"
     ∷ 0x4040_0000 ∷ 0x4040_0000 ∷ 0x481c_4000 ∷ []
 
 pub Run : computed ≡ stated
-unfolding refusalOf mapRefusalOf sizeRefusal mapRefusal listRefusal roomRefusal isNan
+unfolding refusalOf mapRefusalOf peaksRefusal sizeRefusal workingRefusal mapRefusal listRefusal roomRefusal isNan
     found corners verdict floorOf maximum plane fold beaten positives any count keep each rect line range from
     mapAt rawAt workAt blurAt responseAt square raySpread ray frame
     saddleAt saddleOf disk rootOf numbers inputAt toInput fitOf
