@@ -14,7 +14,7 @@ use Rattle.verdict.specs.Window.{at}
 use Rattle.verdict.specs.Verdict.{isKept, verdict}
 use Rattle.crests.specs.Maximum.{maximum}
 
--- ---- "Candidates inside go in row order": at least b from every edge
+-- ---- "Candidates inside go in row order": at least b from every edge. The border is `borderOf` of params/Settings; frames with none inside are refused, 15
 
 abbrev pub candidates : ℕ → ℕ → ℕ → List Place
 candidates w h b = rect b (w - b) b (h - b)

@@ -1,4 +1,4 @@
--- Document 01, "What comes back" and "Frame file and printed list", and document 02's tickets from 15 on: the number of each
+-- Document 01, "What comes back" and "Frame file and printed list", and document 02's refusals from 15 on: the number of each
 -- answer.
 use Prim.Native.Nat.{ℕ}
 use Rattle.params.specs.declared.answers.Answer.{Answer}

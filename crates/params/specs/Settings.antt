@@ -1,4 +1,5 @@
--- Document 01, "Settings and sizes": what a factor or radius counts as, the border, the mode by its number, and the defaults.
+-- Document 01, "Settings and sizes": what a factor or radius counts as, the mode by its number, and the defaults; and the
+-- border of "Rules of the list", by which frames are judged too small.
 use mathlib.Core.Bool.{cond}
 use Prim.Native.Nat.{ℕ, _+_, max, min}
 use lib.Dec.{eqb}
