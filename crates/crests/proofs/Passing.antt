@@ -14,7 +14,11 @@ use lib.Seq.{getD-take, getD-drop}
 use lib.Dec.{lit<, ltb, leb}
 use lib.Ieee.{Float, nan, lt}
 use Rattle.sizes.proofs.Fitting.{both-true, true-both}
-use Rattle.crests.specs.Crests.{over, crest, worth, four, eight, None, Passed, Next, searchFits, Sought}
+use Rattle.grid.specs.Each.{count}
+use Rattle.grid.specs.Rect.{line}
+use Rattle.grid.proofs.Rect.{count-line, count-range-ext}
+use Rattle.crests.specs.Maximum.{entry}
+use Rattle.crests.specs.Crests.{over, longest, aboveCount, crest, worth, four, eight, None, Passed, Next, searchFits, Sought}
 
 nor : (a b : Bool) → (a || b) ≡ false → (a ≡ false) × (b ≡ false)
 nor true b h = absurd (true≢false h)
@@ -71,6 +75,16 @@ module _ (p : ℕ → Bool) (a e : ℕ) where
 
     pub next-none : e ≤ i → Next p a e e
     next-none b = record { least = omega arith; most = omega arith; none = λ k u v. s .none k u (omega arith); found = λ q. absurd (omega arith) }
+
+-- ---- how many are above
+
+-- a part of row y, from column a to before e, counts what the row has there
+pub part-above : (floor : Float) (f : ℕ → ℕ → Float) (part : List Float) (a e y : ℕ) {n : ℕ} → length part ≡ e - a → e - a ≤ longest
+    → ((k : ℕ) → k < e - a → entry part k ≡ f (a + k) y) → n ≡ aboveCount floor part → n ≡ count (λ q. lt floor (f (q .x) (q .y))) (line a e y)
+unfolding aboveCount
+part-above floor f part a e y l m is u =
+    let counted = rw (l, le-leb (e - a) longest m) at u in
+    counted ∙ rw count-line (count-range-ext _ _ 0 (e - a) (λ k _ b. ap (lt floor) (is k b)))
 
 -- ---- crests
 

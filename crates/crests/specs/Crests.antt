@@ -6,11 +6,20 @@ use mathlib.Core.List.{List}
 use lib.ListN.{length}
 use lib.Dec.{ltb, leb}
 use lib.Ieee.{Float, lt}
+use Rattle.grid.specs.Each.{count}
+use Rattle.grid.specs.Rect.{range}
 use Rattle.crests.specs.Maximum.{entry}
 
 -- entry k is above the floor
 abbrev pub over : Float → List Float → ℕ → Bool
 over floor s k = lt floor (entry s k)
+
+-- how many entries are, of a slice that a u32 can count; of a longer one, 0
+abbrev pub longest : ℕ
+longest = 4294967295
+
+unfoldable pub aboveCount : Float → List Float → ℕ
+aboveCount floor s = cond (leb (length s) longest) (count (over floor s) (range 0 (length s))) 0
 
 -- and no less than its two neighbours
 abbrev pub crest : Float → List Float → ℕ → Bool

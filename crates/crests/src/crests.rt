@@ -2,7 +2,36 @@
 ghost use mathlib.Core.Path.{_≡_};
 ghost use Prim.Native.Nat.{_+_, _≤_, _<_};
 ghost use lib.ListN.{length};
-ghost use Rattle.crests.specs.Crests.{over, crest, worth, four, eight, Passed, Next, searchFits, Sought};
+ghost use Rattle.grid.specs.Each.{count};
+ghost use Rattle.grid.specs.Rect.{range};
+ghost use Rattle.crests.specs.Crests.{over, longest, aboveCount, crest, worth, four, eight, Passed, Next, searchFits, Sought};
+
+const LONGEST: usize = 4294967295;
+
+// How many values are above the floor. No branch depends on another, so several are counted at once.
+fn above_in(part: &[f32], floor: f32) -> u32
+    requires { ⌜ length (now part) ≤ longest ⌝ }
+    ensures { λ n. ⌜ n ≡ count (over floor (now (part .entry))) (range 0 (length (now (part .entry)))) ⌝ }
+{
+    let e = part.len();
+    let mut n: u32 = 0;
+    for i in 0..e {
+        if part[i] > floor {
+            n += 1;
+        }
+    }
+    n
+}
+
+// How many values are above the floor. A slice that is too long for a u32 to count has none.
+pub fn count_above(s: &[f32], floor: f32) -> u32
+    ensures { λ n. ⌜ n ≡ aboveCount floor (now (s .entry)) ⌝ }
+{
+    if s.len() <= LONGEST {
+        return above_in(s, floor);
+    }
+    0
+}
 
 // Whether one of the four values from i on is above the floor.
 fn four_above(s: &[f32], i: usize, floor: f32) -> bool

@@ -10,6 +10,7 @@ use lib.Dec.{ltb, leb, eqb}
 use lib.Ieee.{Float}
 use Rattle.params.specs.declared.answers.Answer.{Answer}
 use Rattle.params.specs.declared.answers.Answer.the-variants.{Complete, ListFull, SideTooLong, TooManyPixels}
+use Rattle.params.specs.declared.answers.Verdicts.{Verdicts}
 use Rattle.params.specs.declared.answers.Outcome.{Outcome}
 use Rattle.params.specs.declared.settings.RadonDetectorParams.{RadonDetectorParams}
 use Rattle.params.specs.Answers.{numberOf, refused}
@@ -81,10 +82,11 @@ module _ (s : RadonDetectorParams) (w h : ℕ) (resp : List Float) (image : List
   pub passes-on : n ≡ 0 → Asked s w h (length resp) (length image)
   passes-on z = asked s w h (length resp) (length image) (ap numberOf (sym is) ∙ sym number ∙ z)
 
-  pub answers : {c : Scan} {found : ℕ} {out : List Float} {r : Answer} → n ≡ 0 → c ≡ scanOf s w h resp → Found c resp image old found out
-      → r ≡ fullOr found (length old / stride) → Promised (record { answer = r; count = found; w = w; h = h }) out
+  pub answers : {c : Scan} {found : Verdicts} {out : List Float} {r : Answer} → n ≡ 0 → c ≡ scanOf s w h resp → Found c resp image old found out
+      → r ≡ fullOr (found .kept) (length old / stride) → Promised (record { answer = r; count = found .kept; w = w; h = h; verdicts = found }) out
   unfolding peaksOutcome listOf
   answers z by t e =
       let q : eqb (numberOf (refusalFor s w h resp image)) 0 ≡ true = eq-eqb _ 0 (ap numberOf (sym is) ∙ sym number ∙ z) in
       let f = rw by at t in
-      rw q (rw (e, f .count), f .list)
+      let full = e ∙ ap (λ (n : ℕ). fullOr n (length old / stride)) (f .count) in
+      rw q ((λ i. record { answer = full i; count = f .count i; w = w; h = h; verdicts = f .verdicts i }), f .list)

@@ -70,7 +70,7 @@ module _ (s : RadonDetectorParams) (t : Float) (n w h : ℕ) (f : ℕ → ℕ �
   higher-floor a b c d v k = fraction-lower (s .«threshold_rel») t (maximum w h f) v a b c d (maximum-nonneg w h f) k
 
   -- and a higher count asks no less
-  higher-count : s .«min_cluster_size» ≤ n → (m : ℕ) → T (leb n m) → T (leb (s .«min_cluster_size») m)
+  pub higher-count : s .«min_cluster_size» ≤ n → (m : ℕ) → T (leb n m) → T (leb (s .«min_cluster_size») m)
   higher-count l m k = le→leb (s .«min_cluster_size») m (omega (arith, leb→le n m k))
 
   pub higher-corners : (g : ℕ → ℕ → ℕ) → T (le f0 (s .«threshold_rel»)) → T (le (s .«threshold_rel») t) → T (le f0 t) → T (le t f1)

@@ -1,5 +1,5 @@
 -- The list depends only on what map and image have inside W by H: two maps and two images that agree there have the same corners with the
--- same numbers. Assumes nothing.
+-- same numbers, and the same counts by verdict. Assumes nothing.
 use mathlib.Core.Path.{_≡_, ap, _∙_}
 use mathlib.Core.Bool.{Bool, not, _&&_}
 use mathlib.Core.List.{List}
@@ -23,8 +23,10 @@ use Rattle.saddle.specs.Saddle.{saddleOf}
 use Rattle.saddle.proofs.Inside.{saddle-same}
 use Rattle.crests.specs.Maximum.{greater, maximum}
 use Rattle.verdict.specs.Window.{at, window, same, beaten, positives}
-use Rattle.detect.specs.Corners.{candidates, floorOf, corners, numbers, stride}
-use Rattle.verdict.specs.Verdict.{firstFailing, isKept, verdict}
+use Rattle.verdict.specs.declared.Verdict.{Verdict}
+use Rattle.verdict.specs.declared.Verdict.the-variants.{NotAbove, Beaten, TooFew, TooFlat, WrongCurvature, Kept}
+use Rattle.verdict.specs.Verdict.{firstFailing, isKept, sameVerdict, verdict}
+use Rattle.detect.specs.Corners.{candidates, floorOf, corners, having, verdictsOf, numbers, stride}
 
 -- ---- the window
 
@@ -86,16 +88,36 @@ module _ (s : RadonDetectorParams) (w h : ℕ) (f g : ℕ → ℕ → Float) (a 
   clear : (k : ℕ) → k ≤ rayOf (s .«ray_radius») + s .«nms_radius» → (p : Place) → Candidate p → Clear w h k (p .x) (p .y)
   clear k l p c = record { left = omega arith; right = omega arith; above = omega arith; below = omega arith }
 
-  pub corners-same : corners s w h f a ≡ corners s w h g b
-  unfolding corners
-  corners-same =
-      ap (λ floor. keep (λ p. isKept (verdict s floor f a p)) (candidates w h (borderOf s))) floor-same
+  -- the candidates whose verdict is one of those that t takes
+  picked-same : (t : Verdict → Bool) → keep (λ p. t (verdict s (floorOf s w h f) f a p)) (candidates w h (borderOf s))
+      ≡ keep (λ p. t (verdict s (floorOf s w h g) g b p)) (candidates w h (borderOf s))
+  picked-same t =
+      ap (λ floor. keep (λ p. t (verdict s floor f a p)) (candidates w h (borderOf s))) floor-same
       ∙ keep-same _ _ (candidates w h (borderOf s))
-      (all-map Candidate (λ p. isKept (verdict s (floorOf s w h g) f a p) ≡ isKept (verdict s (floorOf s w h g) g b p))
-      (λ p c. ap isKept (verdict-same (floorOf s w h g) (p .x) (p .y)
+      (all-map Candidate (λ p. t (verdict s (floorOf s w h g) f a p) ≡ t (verdict s (floorOf s w h g) g b p))
+      (λ p c. ap t (verdict-same (floorOf s w h g) (p .x) (p .y)
       (clear (s .«nms_radius») (omega arith) p c) (clear (rayOf (s .«ray_radius»)) (omega arith) p c)))
       (candidates w h (borderOf s))
       (all-rect (borderOf s) (w - borderOf s) (borderOf s) (h - borderOf s)))
+
+  pub corners-same : corners s w h f a ≡ corners s w h g b
+  unfolding corners
+  corners-same = picked-same isKept
+
+  pub having-same : (v : Verdict) → having s w h f a v ≡ having s w h g b v
+  unfolding having count
+  having-same v = ap length (picked-same (λ u. sameVerdict u v))
+
+  pub verdicts-same : verdictsOf s w h f a ≡ verdictsOf s w h g b
+  unfolding verdictsOf
+  verdicts-same = λ i. record {
+    «not_above» = having-same NotAbove i;
+    beaten = having-same Beaten i;
+    «too_few» = having-same TooFew i;
+    «too_flat» = having-same TooFlat i;
+    «wrong_curvature» = having-same WrongCurvature i;
+    kept = having-same Kept i;
+  }
 
   numbers-at : (p : Place) → Candidate p → numbers s f p ≡ numbers s g p
   unfolding numbers

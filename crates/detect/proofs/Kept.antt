@@ -1,10 +1,11 @@
 -- Facts of the list that a plain reading of the rules gives: the count is the number of candidates that are kept, equal plateau maxima are all kept,
 -- and the floor finds what the source's floor finds. Assumes nothing.
-use mathlib.Core.Path.{_≡_, refl}
+use mathlib.Core.Path.{_≡_, refl, sym, ap}
 use mathlib.Core.Bool.{true, false}
 use Prim.Native.Nat.{ℕ, _+_, _-_, _*_, _/_, _%_, _≤_, _<_}
 use borrow.Author.Tests.{eq-eqb}
 use mathlib.Core.List.{List}
+use lib.ListN.{length}
 use lib.Dec.{T, leb}
 use lib.Ieee.{Float, inf, lt, le}
 use Rattle.float.specs.Values.{f0, f1}
@@ -14,6 +15,7 @@ use Rattle.grid.specs.Fold.{fold}
 use Rattle.grid.proofs.Fold.{fold-keeps}
 use Rattle.grid.specs.Plane.{plane}
 use Rattle.grid.specs.Each.{count}
+use Rattle.grid.proofs.Each.{keep-ext}
 use Rattle.grid.specs.Rect.{Place, place}
 use Rattle.grid.proofs.Rect.{any-rect-none}
 use Rattle.params.specs.declared.settings.RadonDetectorParams.{RadonDetectorParams}
@@ -23,11 +25,12 @@ use Rattle.saddle.specs.declared.Saddle.the-variants.{Yes}
 use Rattle.verdict.specs.declared.Verdict.the-variants.{NotAbove, Kept}
 use Rattle.crests.specs.Maximum.{greater, maximum}
 use Rattle.verdict.specs.Window.{at, beaten, positives}
-use Rattle.detect.specs.Corners.{candidates, floorOf, corners}
+use Rattle.detect.specs.Corners.{candidates, floorOf, corners, having, verdictsOf}
 use Rattle.verdict.specs.Verdict.{isSaddle, isKept, verdict}
 use Rattle.detect.specs.Detected.{refusalFor, peaksOutcome}
 use Rattle.grid.specs.Ways.{pixel, value}
 use Rattle.crests.proofs.Greatest.{greatest-nonneg}
+use Rattle.detect.proofs.Tally.{kept-last}
 
 -- ---- the count
 
@@ -36,6 +39,11 @@ pub count-is-kept : (s : RadonDetectorParams) (w h : ℕ) (resp : List Float) (i
     ≡ count (λ p. isKept (verdict s (floorOf s w h (value resp w)) (value resp w) (pixel image w) p)) (candidates w h (borderOf s))
 unfolding peaksOutcome count corners
 count-is-kept s w h resp image len e = rw (eq-eqb _ 0 e)
+
+-- "kept" is the count of the corners
+pub kept-is-found : (s : RadonDetectorParams) (w h : ℕ) (f : ℕ → ℕ → Float) (g : ℕ → ℕ → ℕ) → (verdictsOf s w h f g) .kept ≡ length (corners s w h f g)
+unfolding verdictsOf having corners count
+kept-is-found s w h f g = ap length (keep-ext _ _ (λ p. sym (kept-last (verdict s (floorOf s w h f) f g p))) (candidates w h (borderOf s)))
 
 -- ---- a plateau
 

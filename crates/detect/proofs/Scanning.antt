@@ -1,27 +1,28 @@
--- What is told of a candidate, a turn of the scan, a row and all rows: the steps behind `peaks`. Assumes nothing.
+-- What is told of a candidate, a turn of the scan, and a row: the steps behind `peaks`. Assumes nothing.
 use mathlib.Core.Path.{_≡_, refl, sym, ap, _∙_}
 use mathlib.Core.Logic.{_⊎_, inl, inr}
 use mathlib.Core.Bool.{Bool, true, false, not, _&&_, true≢false}
 use Prim.Native.Nat.{ℕ, _+_, _-_, _*_, _/_, _≤_, _<_, _^_, min}
 use native.Mathlib.Omega.{arith}
 use mathlib.Core.List.{List, [], _∷_}
+use borrow.Author.Tests.{ltb-true, ltb-false}
 use native.Mathlib.Nat.{div-add-mod'}
 use lib.ListN.{length, getD, take, drop, length-take, length-drop}
 use lib.Seq.{sets, length-take-le, getD-take, getD-drop}
-use lib.Dec.{T, leb, le→leb}
+use lib.Dec.{T, ltb, leb, le→leb}
 use lib.IntN.{pos}
 use lib.Ieee.{Float, nan, binary32, lt, mul, inFloat}
 use Rattle.float.specs.Values.{f0}
 use Rattle.grid.proofs.Fold.{fold-ext}
 use Rattle.grid.specs.Plane.{plane}
-use Rattle.grid.proofs.Plane.{row-in}
-use Rattle.grid.specs.Rect.{Place, place}
-use Rattle.grid.proofs.Rect.{any-in, Down, down-none, down-more, down-all}
-use Rattle.grid.proofs.Rect.{Across, across-none, across-more, across-skip}
+use Rattle.grid.specs.Each.{count}
+use Rattle.grid.proofs.Each.{count-most}
+use Rattle.grid.specs.Rect.{Place, place, line}
+use Rattle.grid.proofs.Rect.{any-in, length-line, down-more, Across, across-none, across-more, across-skip}
 use Rattle.grid.specs.Ways.{pixel, value}
-use Rattle.grid.specs.Over.{Listed, Onward}
-use Rattle.grid.proofs.Over.{listed-none, onward-none, onward-no, onward-full, onward-put}
-use Rattle.sizes.proofs.Fitting.{Square}
+use Rattle.grid.specs.Over.{Onward}
+use Rattle.grid.proofs.Over.{onward-none, onward-no, onward-full, onward-put}
+use Rattle.sizes.proofs.Fitting.{Square, both-true}
 use Rattle.params.specs.declared.settings.RadonDetectorParams.{RadonDetectorParams}
 use Rattle.params.specs.Settings.{rayOf}
 use Rattle.saddle.specs.declared.SaddleTest.{SaddleTest}
@@ -32,14 +33,15 @@ use Rattle.saddle.specs.Steps.{Around}
 use Rattle.saddle.proofs.Fitting.{numbers-plain}
 use Rattle.crests.specs.Maximum.{entry, greater, greatestOf, maximum}
 use Rattle.verdict.specs.Window.{at, beaten, positives}
-use Rattle.crests.specs.Crests.{over, crest, Sought}
-use Rattle.crests.proofs.Passing.{sought-plain, not-worth}
-use Rattle.detect.specs.Corners.{floorOf, corners, stride, numbers}
-use Rattle.verdict.specs.Verdict.{firstFailing, isSaddle, isKept, verdict}
+use Rattle.crests.specs.Crests.{over, aboveCount, crest, Sought}
+use Rattle.crests.proofs.Passing.{part-above, sought-plain, not-worth}
+use Rattle.detect.specs.Corners.{floorOf, stride, numbers}
+use Rattle.verdict.specs.Verdict.{firstFailing, isSaddle, isKept, rank, verdict}
 use Rattle.verdict.specs.Judged.{judgedIn}
 use Rattle.verdict.specs.Room.{Cross}
-use Rattle.detect.specs.Scan.{scanOf, floorIn, verdictIn, keptIn, numbersIn, fittedAt, borderIn, rowsAbove}
-use Rattle.detect.specs.Scan.{Asked, Judging, Candidate, Finding, NextInRow, Entered, RowFound, Found}
+use Rattle.detect.specs.Scan.{scanOf, floorIn, verdictIn, keptIn, aboveIn, numbersIn, fittedAt, borderIn, rowsAbove}
+use Rattle.detect.specs.Scan.{Tally, more, keptOf, Tallied, Asked, Judging, Candidate, Finding, NextInRow, AboveInRow, Entered, RowFound}
+use Rattle.detect.proofs.Tally.{early-dropped, rank-most, wider, tally-more, kept-more, kept-same, counts-more, counts-skip}
 use Rattle.verdict.proofs.Windows.{cross}
 use Rattle.verdict.proofs.Rules.{room, judged-plain}
 
@@ -110,42 +112,64 @@ module _ (s : Scan) (l r : List Float) (n x y : ℕ) (k : Cross (s .w) x y (leng
       let d : centre + s .w ≡ (y + 1) * s .w + x = omega arith in
       rw (e1, e2, i, j, u, d) at all
 
--- ---- a candidate that is judged, by what was said of it
+-- ---- a candidate that is judged, by what was said of it: v is its verdict, `kept` whether it is kept, r its rank, and t the tally before
 
-said : {a v : Verdict} {r b : Bool} → v ≡ a → r ≡ isKept v → r ≡ b → isKept a ≡ b
-said is kept t = ap isKept (sym is) ∙ sym kept ∙ t
+module _ (s : Scan) (resp : List Float) (image : List ℕ) (x y : ℕ) (mid : List Float) (t : List ℕ) {v : Verdict} {kept : Bool} {r : ℕ}
+    (is : v ≡ verdictIn s resp image (place x y)) (keeps : kept ≡ isKept v) (ranks : r ≡ rank v) (long : length t ≡ 6) where
+  said : {b : Bool} → kept ≡ b → keptIn s resp image (place x y) ≡ b
+  said e = ap isKept (sym is) ∙ sym keeps ∙ e
 
-module _ {s : Scan} {resp : List Float} {image : List ℕ} {x y : ℕ} {mid : List Float} {n : ℕ} {v : Verdict} {r : Bool}
-    (is : v ≡ verdictIn s resp image (place x y)) (kept : r ≡ isKept v) where
-  pub entered-no : r ≡ false → Entered s resp image x y mid n mid n
-  entered-no t = record { onward = λ l. onward-no _ _ _ _ _ _ _ _ (onward-none _ _ _ _ _ _) (said is kept t); few = omega arith }
+  tallied : more t r ≡ more t (rank (verdictIn s resp image (place x y)))
+  tallied = ap (more t) (ranks ∙ ap rank is)
 
-  pub entered-full : {new : List Float} → r ≡ true → length mid / stride ≤ n → new ≡ mid → Entered s resp image x y mid n new (n + 1)
-  entered-full t l e =
-      rw e (record { onward = λ p. onward-full _ _ _ _ _ _ _ _ (onward-none _ _ _ _ _ _) (said is kept t) l; few = omega arith })
-
-  pub entered-put : {new : List Float} → r ≡ true → n < length mid / stride → new ≡ sets mid (stride * n) (numbersIn s resp (place x y))
-      → Entered s resp image x y mid n new (n + 1)
-  entered-put t l e = record {
-    onward = λ p. onward-put _ _ _ _ _ _ _ _ (numbers-long (s .params) (value resp (s .w))) (onward-none _ _ _ _ _ _) (said is kept t) l e;
-    few = omega arith;
+  no : kept ≡ false → Entered s resp image x y mid t mid (more t r)
+  no e = record {
+    onward = λ l. rw (tallied, kept-same t (verdictIn s resp image (place x y)) long (said e)) (onward-no _ _ _ _ _ _ _ _ (onward-none _ _ _ _ _ _) (said e));
+    tally = tallied;
   }
 
--- ---- a run of places that cannot be kept
+  full : kept ≡ true → length mid / stride ≤ keptOf t → Entered s resp image x y mid t mid (more t r)
+  full e b = record {
+    onward = λ l. rw (tallied, kept-more t (verdictIn s resp image (place x y)) long (said e)) (onward-full _ _ _ _ _ _ _ _ (onward-none _ _ _ _ _ _) (said e) b);
+    tally = tallied;
+  }
 
-pub low-out : (s : RadonDetectorParams) (floor : Float) (f : ℕ → ℕ → Float) (g : ℕ → ℕ → ℕ) (p : Place) → lt floor (at f p) ≡ false
-    → isKept (verdict s floor f g p) ≡ false
+  -- not kept, or no room
+  pub entered-not : {new : List Float} {n room : ℕ} → n ≡ keptOf t → room ≡ length mid / stride → (kept && ltb n room) ≡ false → new ≡ mid
+      → Entered s resp image x y mid t new (more t r)
+  entered-not {n = n} {room = room} q w e same = rw same (go kept refl)
+    where
+      go : (k : Bool) → kept ≡ k → Entered s resp image x y mid t mid (more t r)
+      go false u = no u
+      go true u = full u (rw (q, w) at (ltb-false n room (rw u at e)))
+
+  -- kept, and stored
+  pub entered-put : {new : List Float} {n room : ℕ} → n ≡ keptOf t → room ≡ length mid / stride → (kept && ltb n room) ≡ true
+      → new ≡ sets mid (stride * n) (numbersIn s resp (place x y)) → Entered s resp image x y mid t new (more t r)
+  entered-put {n = n} {room = room} q w e put =
+      let both = both-true kept (ltb n room) e in
+      let b = rw (q, w) at (ltb-true n room (both .1)) in
+      record {
+        onward = λ l. rw (tallied, kept-more t (verdictIn s resp image (place x y)) long (said (both .0)))
+            (onward-put _ _ _ _ _ _ _ _ (numbers-long (s .params) (value resp (s .w))) (onward-none _ _ _ _ _ _) (said (both .0)) b (rw q at put));
+        tally = tallied;
+      }
+
+-- ---- a run of places that pass at most one test
+
+low-out : (s : RadonDetectorParams) (floor : Float) (f : ℕ → ℕ → Float) (g : ℕ → ℕ → ℕ) (p : Place) → lt floor (at f p) ≡ false
+    → rank (verdict s floor f g p) ≤ 1
 unfolding verdict
-low-out s floor f g p e = rw e
+low-out s floor f g p e = rw e (omega arith)
 
 beaten-out : (s : RadonDetectorParams) (floor : Float) (f : ℕ → ℕ → Float) (g : ℕ → ℕ → ℕ) (p : Place) → beaten f (s .«nms_radius») p ≡ true
-    → isKept (verdict s floor f g p) ≡ false
+    → rank (verdict s floor f g p) ≤ 1
 unfolding verdict
 beaten-out s floor f g p e = rw e (go (lt floor (at f p)))
   where
-    go : (a : Bool) → isKept (firstFailing a false (leb (s .«min_cluster_size») (positives f (s .«nms_radius») p)) (isSaddle s g p)) ≡ false
-    go true = refl
-    go false = refl
+    go : (a : Bool) → rank (firstFailing a false (leb (s .«min_cluster_size») (positives f (s .«nms_radius») p)) (isSaddle s g p)) ≤ 1
+    go true = omega arith
+    go false = omega arith
 
 -- three tests of which one fails
 fails : (a l r : Bool) → (a && (not l && not r)) ≡ false → (a ≡ false) ⊎ ((l ≡ true) ⊎ (r ≡ true))
@@ -178,7 +202,7 @@ module _ (s : Scan) (resp : List Float) (y : ℕ) (fits : y * s .w + s .w ≤ le
 
   -- not above the floor, or less than a neighbour that the window has
   passed-out : (image : List ℕ) (k : ℕ) → 0 < k → k + 1 < s .w
-      → (over (s .floor) row k ≡ false) ⊎ ((0 < s .params .«nms_radius») × (crest (s .floor) row k ≡ false)) → keptIn s resp image (place k y) ≡ false
+      → (over (s .floor) row k ≡ false) ⊎ ((0 < s .params .«nms_radius») × (crest (s .floor) row k ≡ false)) → rank (verdictIn s resp image (place k y)) ≤ 1
   passed-out image k h l c = elim c [
     | inl z ↦ low z
     | inr z ↦ elim (fails (over (s .floor) row k) (lt (entry row k) (entry row (k - 1))) (lt (entry row k) (entry row (k + 1))) (z .1)) [
@@ -190,7 +214,7 @@ module _ (s : Scan) (resp : List Float) (y : ℕ) (fits : y * s .w + s .w ≤ le
     ]
   ]
     where
-      low : over (s .floor) row k ≡ false → keptIn s resp image (place k y) ≡ false
+      low : over (s .floor) row k ≡ false → rank (verdictIn s resp image (place k y)) ≤ 1
       low t =
           low-out (s .params) (s .floor) (value resp (s .w)) (pixel image (s .w)) (place k y)
           (rw (row-value resp (s .w) y fits k (omega arith)) at t)
@@ -209,86 +233,86 @@ onward-on : {A B : Type 0} {k : ℕ} {f : A → List B} {p : A → Bool} {mid ou
     → Onward k f p mid m l₀ out n l → Onward k f p out n l new r l′ → Onward k f p mid m l₀ new r l′
 onward-on a b = record { on = λ old h. b .on old (a .on old h); same = b .same ∙ a .same }
 
--- ---- the scan at x of row y: `mid` and m are the list and the count with which the row began
+-- ---- how many of a row are above the floor
 
-pub record Scanned (s : Scan) (resp : List Float) (image : List ℕ) (y : ℕ) (mid : List Float) (m : ℕ) (out : List Float) (n x : ℕ) : Type 0 where
-  pub across : Across (Onward stride (numbersIn s resp) (keptIn s resp image) mid m (rowsAbove s y) out n)
-      (borderIn s) (s .w - borderIn s) (borderIn s) (s .h - borderIn s) y x
-  pub few : n ≤ m + x
+pub above-is : (s : Scan) (resp : List Float) (y : ℕ) {a e : ℕ} {part : List Float} {n : ℕ} → 2 * borderIn s < s .w → s .w ≤ 8192
+    → y * s .w + s .w ≤ length resp → a ≡ y * s .w + borderIn s → e ≡ a + (s .w - 2 * borderIn s) → part ≡ take (e - a) (drop a resp)
+    → n ≡ aboveCount (s .floor) part → AboveInRow s resp y n
+above-is s resp y {a} {e} {part} {n} clear wide fits u v is h =
+    let b = borderIn s in
+    let ex = s .w - b in
+    let size : ex - b ≡ s .w - 2 * b = omega arith in
+    let taken : e - a ≡ s .w - 2 * b = omega arith in
+    let most : s .w - 2 * b ≤ length resp - a = omega arith in
+    let long : length part ≡ ex - b =
+    ap length is ∙ length-take-le (e - a) (drop a resp) (rw (taken, length-drop) most) ∙ taken ∙ sym size in
+    let at : (k : ℕ) → k < ex - b → entry part k ≡ value resp (s .w) (b + k) y = λ k l.
+    let i : a + k ≡ y * s .w + (b + k) = omega arith in
+    rw is (getD-take (e - a) (drop a resp) k nan (rw (taken, ← size) l) ∙ getD-drop a resp k nan ∙ ap (λ (i : ℕ). getD resp i nan) i) in
+    let c = part-above (s .floor) (value resp (s .w)) part b ex y long (omega arith) at h in
+    let few : count (aboveIn s resp) (line b ex y) ≤ s .w = omega (arith, count-most (aboveIn s resp) (line b ex y), length-line b ex y) in
+    record { count = c; few = omega (arith, c) }
+
+-- ---- the scan at x of row y: `mid` and t are the list and the tally with which the row began
+
+-- what has become of them over the places l
+abbrev Onwards : Scan → List Float → List ℕ → ℕ → List Float → List ℕ → List Float → List ℕ → List Place → Type 0
+Onwards s resp image y mid t out u l =
+    Onward stride (numbersIn s resp) (keptIn s resp image) mid (keptOf t) (rowsAbove s y) out (keptOf u) l × Tallied s resp image t (rowsAbove s y) u l
+
+pub record Scanned (s : Scan) (resp : List Float) (image : List ℕ) (y : ℕ) (mid : List Float) (t : List ℕ) (out : List Float) (u : List ℕ) (x : ℕ) : Type 0 where
+  pub across : Across (Onwards s resp image y mid t out u) (borderIn s) (s .w - borderIn s) (borderIn s) (s .h - borderIn s) y x
+  pub tally : Tally u (8192 * y + x)
 
 -- a search that goes on past x comes nearer the end
 pub nearer : (e x i : ℕ) → x < e → x + 1 ≤ i → e - i < e - x
 nearer e x i a b = omega arith
 
-module _ {s : Scan} {resp : List Float} {image : List ℕ} {y : ℕ} {mid : List Float} {m : ℕ} (f : Finding s y m (length resp) (length image))
+module _ {s : Scan} {resp : List Float} {image : List ℕ} {y : ℕ} {mid : List Float} {t : List ℕ} (f : Finding s y t (length resp) (length image))
     {b : ℕ} (border : b ≡ borderIn s) where
-  pub scan-none : Scanned s resp image y mid m mid m b
+  pub scan-none : Scanned s resp image y mid t mid t b
   scan-none =
-      let wider = f .judging .asked .wider in
-      rw border (record { across = across-none _ _ _ _ _ y (omega arith) (f .above) (omega arith) (onward-none _ _ _ _ _ _); few = omega arith })
+      let inner = f .judging .asked .wider in
+      rw border (record {
+        across = across-none _ _ _ _ _ y (omega arith) (f .above) (omega arith) (onward-none _ _ _ _ _ _, record { on = λ k _ _ e. e });
+        tally = wider t (f .tally) (omega arith);
+      })
 
-  module _ {out : List Float} {n x : ℕ} (c : Scanned s resp image y mid m out n x) where
+  module _ {out : List Float} {u : List ℕ} {x : ℕ} (c : Scanned s resp image y mid t out u x) where
     -- the search goes on to i
-    pub scan-on : {i : ℕ} → NextInRow s resp y x (s .w - b) i → Scanned s resp image y mid m out n i
-    scan-on {i} t =
+    pub scan-on : {i : ℕ} → NextInRow s resp y x (s .w - b) i → Scanned s resp image y mid t out u i
+    scan-on {i} n =
         let o : x + (i - x) ≡ i = omega arith in
+        let passed : (k : ℕ) → x ≤ k → k < x + (i - x) → rank (verdictIn s resp image (place k y)) ≤ 1 = λ k a e. n .none image k a (omega arith) in
         record {
-          across = rw o at (across-skip _ _ _ _ _ (i - x) (c .across) (omega arith)
-              (λ k u v p. onward-no _ _ _ _ _ _ _ _ p (t .none image k u (omega arith))));
-          few = omega arith;
+          across = rw o at (across-skip _ _ _ _ _ (i - x) (c .across) (omega arith) (λ k a e p. (
+            onward-no _ _ _ _ _ _ _ _ (p .0) (early-dropped (verdictIn s resp image (place k y)) (passed k a e)),
+            record { on = λ j g m h. counts-skip (verdictIn s resp image) j u _ (place k y) g (passed k a e) (p .1 .on j g m h) },
+          )));
+          tally = wider u (c .tally) (omega (arith, n .least));
         }
 
-    pub candidate : x < s .w - b → Candidate s x y (length resp) (length image) × (n ≤ 8192 * 8192)
-    candidate l = (
-      record { judging = f .judging; left = c .across .least; right = omega arith; above = f .above; below = f .below; row = f .row },
-      omega (arith, f .few, f .judging .asked),
-    )
+    pub candidate : x < s .w - b → Candidate s x y (length resp) (length image) × Tally u (8192 * 8192)
+    candidate l =
+        let a = f .judging .asked in (
+          record { judging = f .judging; left = c .across .least; right = omega arith; above = f .above; below = f .below; row = f .row },
+          wider u (c .tally) (omega (arith, a .wide, a .high, f .below)),
+        )
 
     -- it is judged
-    pub scan-turn : {new : List Float} {k : ℕ} → x < s .w - b → Entered s resp image x y out n new k → Scanned s resp image y mid m new k (x + 1)
-    scan-turn l t = record {
-      across = across-more _ _ _ _ _ _ (c .across) (omega arith) (λ o. onward-on o (t .onward _));
-      few = omega (arith, t .few);
+    pub scan-turn : {new : List Float} {v : List ℕ} → x < s .w - b → Entered s resp image x y out u new v → Scanned s resp image y mid t new v (x + 1)
+    scan-turn {v = v} l e = record {
+      across = across-more _ _ _ _ _ _ (c .across) (omega arith) (λ p. (
+        onward-on (p .0) (e .onward _),
+        record { on = λ k g m h. rw (e .tally) (counts-more (verdictIn s resp image) k u _ (place x y) (c .tally .long) (p .1 .on k g m h)) },
+      ));
+      tally = rw (e .tally) (wider _ (tally-more u _ (rank-most (verdictIn s resp image (place x y))) (c .tally)) (omega arith));
     }
 
-    pub scan-all : s .w - b ≤ x → RowFound s resp image y mid m out n
-    scan-all l = record { onward = down-more _ _ _ _ _ (c .across) (omega arith) .holds; few = omega arith }
-
--- ---- the scan over the rows: what is found above row y
-
-pub record FoundTo (s : Scan) (resp : List Float) (image : List ℕ) (old out : List Float) (n y : ℕ) : Type 0 where
-  pub down : Down (Listed stride (numbersIn s resp) (keptIn s resp image) old out n)
-      (borderIn s) (s .w - borderIn s) (borderIn s) (s .h - borderIn s) y
-  pub few : n ≤ 8192 * y
-
-module _ {s : Scan} {resp : List Float} {image : List ℕ} {old : List Float} where
-  pub found-none : {b : ℕ} → b ≡ borderIn s → 2 * borderIn s < s .h → FoundTo s resp image old old 0 b
-  found-none e b = rw e (record { down = down-none _ _ _ _ _ (omega arith) (listed-none _ _ _ _); few = omega arith })
-
-  module _ {out : List Float} {n y : ℕ} (c : FoundTo s resp image old out n y) where
-    pub finding : Judging s (length resp) (length image) → y < s .h - borderIn s → Finding s y n (length resp) (length image)
-    finding j b =
-        let l : y < s .h = omega arith in
-        record {
-          judging = j;
-          above = c .down .least;
-          below = omega arith;
-          row = omega (arith, j .asked .response, row-in (s .w) l);
-          few = c .few;
-        }
-
-    pub found-more : {new : List Float} {r : ℕ} → s .w ≤ 8192 → y < s .h - borderIn s → RowFound s resp image y out n new r
-        → FoundTo s resp image old new r (y + 1)
-    found-more l b q = record {
-      down = record { least = omega arith; most = omega arith; holds = q .onward .on old (c .down .holds) };
-      few = omega arith;
-    }
-
-    pub found-all : s .h - borderIn s ≤ y → s .floor ≡ floorIn s resp → Found s resp image old n out
-    unfolding corners
-    found-all b e =
-        let l = down-all _ _ _ _ _ (c .down) b in
-        record { count = rw e at (l .count); list = rw e at (l .fill) }
+    pub scan-all : s .w - b ≤ x → RowFound s resp image y mid t out u
+    scan-all l =
+        let rows = down-more _ _ _ _ _ (c .across) (omega arith) .holds in
+        record { onward = rows .0; tallied = rows .1; tally = wider u (c .tally) (omega (arith, c .across .most, f .judging .asked .wide)) }
 
 -- ---- what the scan goes by
 

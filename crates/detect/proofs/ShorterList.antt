@@ -10,8 +10,8 @@ use Rattle.grid.proofs.Over.{shorter, past}
 use Rattle.params.specs.declared.settings.RadonDetectorParams.{RadonDetectorParams}
 use Rattle.params.specs.declared.answers.Outcome.{Outcome}
 use Rattle.params.specs.Answers.{numberOf, refused}
-use Rattle.grid.specs.Ways.{value}
-use Rattle.detect.specs.Corners.{numbers, stride}
+use Rattle.grid.specs.Ways.{pixel, value}
+use Rattle.detect.specs.Corners.{verdictsOf, numbers, stride}
 use Rattle.detect.specs.Detected.{refusalFor, foundIn, fullOr, peaksOutcome, listOf}
 use Rattle.detect.proofs.Scanning.{numbers-long}
 use Rattle.detect.proofs.HigherSettings.{accepted-list}
@@ -22,17 +22,26 @@ module _ (s : RadonDetectorParams) (w h : ℕ) (resp : List Float) (image : List
   writtenLength len = stride * min (length (foundIn s w h resp image)) (len / stride)
 
   abbrev done : ℕ → Outcome
-  done len = record { answer = fullOr (length (foundIn s w h resp image)) (len / stride); count = length (foundIn s w h resp image); w = w; h = h }
+  done len = record {
+    answer = fullOr (length (foundIn s w h resp image)) (len / stride);
+    count = length (foundIn s w h resp image);
+    w = w;
+    h = h;
+    verdicts = verdictsOf s w h (value resp w) (pixel image w);
+  }
 
-  -- the total does not depend on the room
-  pub same-total : (a b : ℕ) → (peaksOutcome s w h resp image a) .count ≡ (peaksOutcome s w h resp image b) .count
+  -- the total does not depend on the room, and no count by verdict does
+  pub same-total : (a b : ℕ) → ((peaksOutcome s w h resp image a) .count ≡ (peaksOutcome s w h resp image b) .count)
+      × ((peaksOutcome s w h resp image a) .verdicts ≡ (peaksOutcome s w h resp image b) .verdicts)
   unfolding peaksOutcome
   same-total a b = go (eqb (numberOf (refusalFor s w h resp image)) 0)
     where
-      go : (t : Bool) → (cond t (done a) (refused (refusalFor s w h resp image))) .count
-          ≡ (cond t (done b) (refused (refusalFor s w h resp image))) .count
-      go true = refl
-      go false = refl
+      or-refused : Bool → ℕ → Outcome
+      or-refused t n = cond t (done n) (refused (refusalFor s w h resp image))
+
+      go : (t : Bool) → (or-refused t a .count ≡ or-refused t b .count) × (or-refused t a .verdicts ≡ or-refused t b .verdicts)
+      go true = (refl, refl)
+      go false = (refl, refl)
 
   module _ (short : List Float) (accepted : numberOf (refusalFor s w h resp image) ≡ 0) where
     pub shorter-list : (long : List Float) → length short ≤ length long

@@ -14,7 +14,7 @@ use Rattle.params.specs.declared.answers.Outcome.{Outcome}
 use Rattle.params.specs.declared.settings.RadonDetectorParams.{RadonDetectorParams}
 use Rattle.params.specs.Answers.{numberOf, refused}
 use Rattle.params.specs.Refusals.{orElse, mapRefusal, listRefusal, roomRefusal}
-use Rattle.detect.specs.Corners.{corners, numbers, stride}
+use Rattle.detect.specs.Corners.{corners, verdictsOf, numbers, stride}
 
 -- 2 a working side over 8,192, twice the input's 4,096; 4 W·H over 8,388,608
 unfoldable pub workingRefusal : ℕ → ℕ → Answer
@@ -39,12 +39,18 @@ foundIn s w h resp image = corners s w h (value resp w) (pixel image w)
 abbrev pub fullOr : ℕ → ℕ → Answer
 fullOr found room = cond (leb found room) Complete ListFull
 
--- the answer, with "found" as its count; "its room is its length divided by three, rounded down"
+-- the answer, with "found" as its count and the six counts; "its room is its length divided by three, rounded down"
 unfoldable pub peaksOutcome : RadonDetectorParams → ℕ → ℕ → List Float → List ℕ → ℕ → Outcome
 unfolding peaksRefusal
 peaksOutcome s w h resp image len =
     cond (eqb (numberOf (refusalFor s w h resp image)) 0)
-    (record { answer = fullOr (length (foundIn s w h resp image)) (len / stride); count = length (foundIn s w h resp image); w = w; h = h })
+    (record {
+      answer = fullOr (length (foundIn s w h resp image)) (len / stride);
+      count = length (foundIn s w h resp image);
+      w = w;
+      h = h;
+      verdicts = verdictsOf s w h (value resp w) (pixel image w);
+    })
     (refused (refusalFor s w h resp image))
 
 -- "the list gets as many whole corners as fit. Entries beyond stay"; with a refusal "no buffer changes"

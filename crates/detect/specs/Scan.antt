@@ -1,13 +1,16 @@
 -- What the scan's private functions ask and hand each other.
 use mathlib.Core.Path.{_≡_}
-use mathlib.Core.Bool.{Bool, false}
+use mathlib.Core.Bool.{Bool}
 use Prim.Native.Nat.{ℕ, _+_, _-_, _*_, _≤_, _<_}
 use mathlib.Core.List.{List, [], _∷_, _++_}
-use lib.ListN.{length}
-use lib.Ieee.{Float}
-use Rattle.grid.specs.Rect.{Place, place, rect}
+use lib.ListN.{length, getD, set}
+use lib.Dec.{eqb}
+use lib.Ieee.{Float, lt}
+use Rattle.grid.specs.Each.{count}
+use Rattle.grid.specs.Rect.{Place, place, rect, line}
 use Rattle.grid.specs.Ways.{pixel, value}
 use Rattle.grid.specs.Over.{written, Onward}
+use Rattle.params.specs.declared.answers.Verdicts.{Verdicts}
 use Rattle.params.specs.declared.settings.RadonDetectorParams.{RadonDetectorParams}
 use Rattle.params.specs.Settings.{rayOf, borderOf}
 use Rattle.verdict.specs.declared.Verdict.{Verdict}
@@ -15,8 +18,9 @@ use Rattle.verdict.specs.declared.Scan.{Scan}
 use Rattle.saddle.specs.Saddle.{saddleOf}
 use Rattle.peak_fit.specs.PeakFit.{fitOf}
 use Rattle.crests.specs.Maximum.{entry}
-use Rattle.detect.specs.Corners.{floorOf, corners, stride, inputAt, numbers}
-use Rattle.verdict.specs.Verdict.{isKept, verdict}
+use Rattle.verdict.specs.Window.{at}
+use Rattle.verdict.specs.Verdict.{isKept, rank, verdict}
+use Rattle.detect.specs.Corners.{floorOf, corners, verdictsOf, stride, inputAt, numbers}
 
 -- ---- what a scan goes by, and what that says of a place over the map and the image in two buffers
 
@@ -38,6 +42,14 @@ verdictIn c resp image p = verdict (c .params) (c .floor) (value resp (c .w)) (p
 abbrev pub keptIn : Scan → List Float → List ℕ → Place → Bool
 keptIn c resp image p = isKept (verdictIn c resp image p)
 
+-- whether it has passed just k of the five tests
+abbrev pub ranked : Scan → List Float → List ℕ → ℕ → Place → Bool
+ranked c resp image k p = eqb (rank (verdictIn c resp image p)) k
+
+-- whether it is above the floor
+abbrev pub aboveIn : Scan → List Float → Place → Bool
+aboveIn c resp p = lt (c .floor) (at (value resp (c .w)) p)
+
 abbrev pub numbersIn : Scan → List Float → Place → List Float
 numbersIn c resp p = numbers (c .params) (value resp (c .w)) p
 
@@ -45,7 +57,10 @@ numbersIn c resp p = numbers (c .params) (value resp (c .w)) p
 abbrev pub fittedAt : RadonDetectorParams → List Float → ℕ → ℕ → Float → ℕ → Float
 fittedAt s resp c step v p = inputAt (s .«image_upsample») p (fitOf (s .«peak_fit») (entry resp (c - step)) v (entry resp (c + step)))
 
--- the corners of the map and the image
+-- the corners of the map and the image, and the counts by verdict
+abbrev pub verdictsIn : Scan → List Float → List ℕ → Verdicts
+verdictsIn c resp image = verdictsOf (c .params) (c .w) (c .h) (value resp (c .w)) (pixel image (c .w))
+
 abbrev pub cornersIn : Scan → List Float → List ℕ → List Place
 cornersIn c resp image = corners (c .params) (c .w) (c .h) (value resp (c .w)) (pixel image (c .w))
 
@@ -55,6 +70,41 @@ borderIn c = borderOf (c .params)
 -- the candidates of the rows above y
 abbrev pub rowsAbove : Scan → ℕ → List Place
 rowsAbove c y = rect (borderIn c) (c .w - borderIn c) (borderIn c) y
+
+-- ---- the tally: entry k is how many of the judged candidates have passed just k tests. Places are passed over unjudged that have passed none or
+-- one, so only the entries from 2 on count all
+
+-- six entries, none above a bound
+pub record Tally (t : List ℕ) (most : ℕ) : Type 0 where
+  pub long : length t ≡ 6
+  pub few : (k : ℕ) → getD t k 0 ≤ most
+
+-- one more that has passed k
+abbrev pub more : List ℕ → ℕ → List ℕ
+more t k = set t k (getD t k 0 + 1)
+
+-- the kept ones: that many corners are in the list
+abbrev pub keptOf : List ℕ → ℕ
+keptOf t = getD t 5 0
+
+-- from where t had counted the places l₀, u has counted the places l
+pub record Tallied (c : Scan) (resp : List Float) (image : List ℕ) (t : List ℕ) (l₀ : List Place) (u : List ℕ) (l : List Place) : Type 0 where
+  pub on : (k : ℕ) → 2 ≤ k → k < 6 → getD t k 0 ≡ count (ranked c resp image k) l₀ → getD u k 0 ≡ count (ranked c resp image k) l
+
+-- how many are neither passed over nor beaten
+abbrev pub laterOf : List ℕ → ℕ
+laterOf t = getD t 2 0 + getD t 3 0 + getD t 4 0 + getD t 5 0
+
+-- the six counts of `all` candidates, of which `above` are above the floor: what is passed over unjudged by subtraction
+abbrev pub bySubtraction : ℕ → ℕ → List ℕ → Verdicts
+bySubtraction all above t = record {
+  «not_above» = all - above;
+  beaten = above - laterOf t;
+  «too_few» = getD t 2 0;
+  «too_flat» = getD t 3 0;
+  «wrong_curvature» = getD t 4 0;
+  kept = keptOf t;
+}
 
 -- ---- what is asked
 
@@ -83,33 +133,40 @@ pub record Candidate (c : Scan) (x y resp image : ℕ) : Type 0 where
   pub below : y + borderIn c < c .h
   pub row : y * c .w + c .w ≤ resp
 
--- y is a row of candidates, with n corners found above it
-pub record Finding (c : Scan) (y n resp image : ℕ) : Type 0 where
+-- y is a row of candidates, with those above it tallied
+pub record Finding (c : Scan) (y : ℕ) (t : List ℕ) (resp image : ℕ) : Type 0 where
   pub judging : Judging c resp image
   pub above : borderIn c ≤ y
   pub below : y + borderIn c < c .h
   pub row : y * c .w + c .w ≤ resp
-  pub few : n ≤ 8192 * y
+  pub tally : Tally t (8192 * y)
 
 -- ---- what is handed on
 
--- i is the next place of row y from a on, and at most e, that may be kept, whatever the image has
+-- i is the next place of row y from a on, and at most e, that may pass the first two tests, whatever the image has
 pub record NextInRow (c : Scan) (resp : List Float) (y a e i : ℕ) : Type 0 where
   pub least : a ≤ i
   pub most : i ≤ e
-  pub none : (image : List ℕ) (x : ℕ) → a ≤ x → x < i → keptIn c resp image (place x y) ≡ false
+  pub none : (image : List ℕ) (x : ℕ) → a ≤ x → x < i → rank (verdictIn c resp image (place x y)) ≤ 1
 
--- with (x, y) judged, n corners in the list `mid` have become r in the list `out`, whatever the places l before were
-pub record Entered (c : Scan) (resp : List Float) (image : List ℕ) (x y : ℕ) (mid : List Float) (n : ℕ) (out : List Float) (r : ℕ) : Type 0 where
-  pub onward : (l : List Place) → Onward stride (numbersIn c resp) (keptIn c resp image) mid n l out r (l ++ (place x y ∷ []))
-  pub few : r ≤ n + 1
+-- n candidates of row y are above the floor
+pub record AboveInRow (c : Scan) (resp : List Float) (y n : ℕ) : Type 0 where
+  pub count : n ≡ count (aboveIn c resp) (line (borderIn c) (c .w - borderIn c) y)
+  pub few : n ≤ c .w
+
+-- with (x, y) judged and tallied, the list `mid` has become `out`, whatever the places l before were
+pub record Entered (c : Scan) (resp : List Float) (image : List ℕ) (x y : ℕ) (mid : List Float) (t : List ℕ) (out : List Float) (u : List ℕ) : Type 0 where
+  pub onward : (l : List Place) → Onward stride (numbersIn c resp) (keptIn c resp image) mid (keptOf t) l out (keptOf u) (l ++ (place x y ∷ []))
+  pub tally : u ≡ more t (rank (verdictIn c resp image (place x y)))
 
 -- with row y scanned, those of the rows above y have become those of the rows above y + 1
-pub record RowFound (c : Scan) (resp : List Float) (image : List ℕ) (y : ℕ) (mid : List Float) (n : ℕ) (out : List Float) (r : ℕ) : Type 0 where
-  pub onward : Onward stride (numbersIn c resp) (keptIn c resp image) mid n (rowsAbove c y) out r (rowsAbove c (y + 1))
-  pub few : r ≤ n + c .w
+pub record RowFound (c : Scan) (resp : List Float) (image : List ℕ) (y : ℕ) (mid : List Float) (t : List ℕ) (out : List Float) (u : List ℕ) : Type 0 where
+  pub onward : Onward stride (numbersIn c resp) (keptIn c resp image) mid (keptOf t) (rowsAbove c y) out (keptOf u) (rowsAbove c (y + 1))
+  pub tallied : Tallied c resp image t (rowsAbove c y) u (rowsAbove c (y + 1))
+  pub tally : Tally u (8192 * (y + 1))
 
--- all rows are scanned: the list holds what fits of n corners
-pub record Found (c : Scan) (resp : List Float) (image : List ℕ) (old : List Float) (n : ℕ) (out : List Float) : Type 0 where
-  pub count : n ≡ length (cornersIn c resp image)
+-- all rows are scanned: r are the counts, and the list holds what fits of the corners
+pub record Found (c : Scan) (resp : List Float) (image : List ℕ) (old : List Float) (r : Verdicts) (out : List Float) : Type 0 where
+  pub verdicts : r ≡ verdictsIn c resp image
+  pub count : r .kept ≡ length (cornersIn c resp image)
   pub list : out ≡ written stride (numbersIn c resp) (cornersIn c resp image) old

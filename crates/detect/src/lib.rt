@@ -75,11 +75,13 @@ pub fn detect_peaks_from_radon(
     }
     let scan = scan_of(response, w, h, params);
     let found = find_peaks(response, image, scan, list);
-    let stored = lesser(found, list.len() / 3);
+    let count = found.kept;
+    let stored = lesser(count, list.len() / 3);
     Outcome {
-        answer: full_or(found, stored),
-        count: found,
+        answer: full_or(count, stored),
+        count,
         w,
         h,
+        verdicts: found,
     }
 }

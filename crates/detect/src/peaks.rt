@@ -1,14 +1,19 @@
-// The scan: the candidates that are kept, in row order, stored as far as the list has room and counted in any case.
+// The scan: the candidates that are kept, in row order, stored as far as the list has room and counted in any case, as are the dropped ones.
 //
 // `scan_of` fixes what the whole scan goes by: the floor, one product of the map's maximum, and the saddle numbers of the ray radius.
 // `find_peaks` goes through the rows inside the border from the top, and `find_in_row` walks a row from its first column inside to its
 // last. `next_in_row` takes it from one place to the next that may be kept: a run of values at or under the floor, or less than a
-// neighbour in the row, is passed over unjudged, since no such place is kept. Where it stops, `list_if_kept` judges the candidate by all
-// rules. A kept one is counted, and while the list has room its three numbers are stored as the next of the list.
+// neighbour in the row, is passed over unjudged, since no such place is kept. Where it stops, `judge_and_list` judges the candidate by all
+// rules and tallies its verdict; while the list has room, a kept one's three numbers are stored as the next of the list.
+//
+// The tally is whole for the verdicts that need more than the row to tell. What was passed over is not above the floor or beaten:
+// `above_in_row` counts what is above, a row at a time, and `by_subtraction` has the rest.
+use crests::count_above;
 use crests::max_response;
 use crests::next_candidate;
 use params::Input;
 use params::RadonDetectorParams;
+use params::Verdicts;
 use params::Working;
 use peak_fit::fit_peak_frac;
 use saddle::new;
@@ -16,6 +21,7 @@ use sizes::lesser;
 use verdict::Scan;
 use verdict::is_kept;
 use verdict::judge_at;
+use verdict::rank;
 ghost use mathlib.Core.Path.{_≡_};
 ghost use Prim.Native.Nat.{_+_, _*_, _/_, _<_, _≤_};
 ghost use mathlib.Core.List.{[], _∷_};
@@ -24,7 +30,8 @@ ghost use lib.Seq.{sets};
 ghost use Rattle.grid.specs.Rect.{place};
 ghost use Rattle.detect.specs.Corners.{stride};
 ghost use Rattle.verdict.specs.Room.{Cross};
-ghost use Rattle.detect.specs.Scan.{scanOf, floorIn, fittedAt, numbersIn, Judging, Candidate, Finding, NextInRow, Entered, RowFound, Found};
+ghost use Rattle.detect.specs.Scan.{scanOf, floorIn, fittedAt, numbersIn, borderIn, Tally, laterOf, bySubtraction};
+ghost use Rattle.detect.specs.Scan.{Judging, Candidate, Finding, NextInRow, AboveInRow, Entered, RowFound, Found};
 
 // Along one axis, a peak of value v at entry c and pixel `at`, in the input image: its offset is fitted to the entries `step` before and after.
 fn fitted(
@@ -68,26 +75,27 @@ fn put_corner(list: &mut [f32], n: usize, resp: &[f32], scan: Scan, x: usize, y:
     store(list, n, px, py, v);
 }
 
-// The candidate at (x, y), after n corners: judged and, if it is kept, stored where there is room. How many corners there are then.
-fn list_if_kept(
+// The candidate at (x, y): judged, stored where it is kept and there is room, and tallied.
+fn judge_and_list(
     resp: &[f32],
     image: &[u8],
     scan: Scan,
     x: usize,
     y: usize,
-    n: usize,
+    tally: &mut [usize],
     list: &mut [f32],
-) -> usize
-    requires { ⌜ Candidate scan x y (length (now resp)) (length (now image)) × (n ≤ 8192 * 8192) ⌝ }
-    ensures { λ r. ⌜ Entered scan (now (resp .entry)) (now (image .entry)) x y (now (list .entry)) n (now (list .exit)) r ⌝ }
+)
+    requires { ⌜ Candidate scan x y (length (now resp)) (length (now image)) × Tally (now tally) (8192 * 8192) ⌝ }
+    ensures { λ _. ⌜ Entered scan (now (resp .entry)) (now (image .entry)) x y (now (list .entry)) (now (tally .entry)) (now (list .exit)) (now (tally .exit)) ⌝ }
 {
-    if is_kept(judge_at(resp, image, scan, x, y)) {
-        if n < list.len() / 3 {
-            put_corner(list, n, resp, scan, x, y);
-        }
-        return n + 1;
+    let v = judge_at(resp, image, scan, x, y);
+    let n = tally[5];
+    let room = list.len() / 3;
+    if is_kept(v) & (n < room) {
+        put_corner(list, n, resp, scan, x, y);
     }
-    n
+    let r = rank(v);
+    tally[r] += 1;
 }
 
 // The next place of row y from `from` on, and before `to`, that may be kept; `to` where there is none.
@@ -108,27 +116,58 @@ fn next_in_row(resp: &[f32], scan: Scan, y: usize, from: usize, to: usize) -> us
     )
 }
 
-// The corners of row y, after the n that are found above it.
+// How many candidates of row y are above the floor.
+fn above_in_row(resp: &[f32], scan: Scan, y: usize) -> usize
+    requires { ⌜ (2 * borderIn scan < scan .w) × (scan .w ≤ 8192) × (y * scan .w + scan .w ≤ length (now resp)) ⌝ }
+    ensures { λ n. ⌜ AboveInRow scan (now (resp .entry)) y n ⌝ }
+{
+    let w = scan.w;
+    let b = scan.params.border();
+    let a = y * w + b;
+    let e = a + (w - 2 * b);
+    count_above(&resp[a..e], scan.floor) as usize
+}
+
+// The candidates of row y, after those above it.
 fn find_in_row(
     resp: &[f32],
     image: &[u8],
     scan: Scan,
     y: usize,
-    n: usize,
+    tally: &mut [usize],
     list: &mut [f32],
-) -> usize
-    requires { ⌜ Finding scan y n (length (now resp)) (length (now image)) ⌝ }
-    ensures { λ r. ⌜ RowFound scan (now (resp .entry)) (now (image .entry)) y (now (list .entry)) n (now (list .exit)) r ⌝ }
+)
+    requires { ⌜ Finding scan y (now tally) (length (now resp)) (length (now image)) ⌝ }
+    ensures { λ _. ⌜ RowFound scan (now (resp .entry)) (now (image .entry)) y (now (list .entry)) (now (tally .entry)) (now (list .exit)) (now (tally .exit)) ⌝ }
 {
     let b = scan.params.border();
     let ex = scan.w - b;
-    let mut count = n;
     let mut x = next_in_row(resp, scan, y, b, ex);
     while x < ex {
-        count = list_if_kept(resp, image, scan, x, y, count, list);
+        judge_and_list(resp, image, scan, x, y, tally, list);
         x = next_in_row(resp, scan, y, x + 1, ex);
     }
-    count
+}
+
+// The six counts of `all` candidates, `above` of which are above the floor: the tally has those that the row does not tell.
+fn by_subtraction(all: usize, above: usize, tally: &[usize]) -> Verdicts
+    requires { ⌜ (all ≤ 8192 * 8192) × (above ≤ all) × (laterOf (now tally) ≤ above) × (length (now tally) ≡ 6) ⌝ }
+    ensures { λ r. ⌜ r ≡ bySubtraction all above (now (tally .entry)) ⌝ }
+{
+    let too_few = tally[2];
+    let too_flat = tally[3];
+    let wrong_curvature = tally[4];
+    let kept = tally[5];
+    let not_above = all - above;
+    let beaten = above - (too_few + too_flat + wrong_curvature + kept);
+    Verdicts {
+        not_above,
+        beaten,
+        too_few,
+        too_flat,
+        wrong_curvature,
+        kept,
+    }
 }
 
 // What the scan of a map goes by.
@@ -149,18 +188,21 @@ pub fn scan_of(resp: &[f32], w: usize, h: usize, params: RadonDetectorParams) ->
     }
 }
 
-// All corners, and how many there are.
-pub fn find_peaks(resp: &[f32], image: &[u8], scan: Scan, list: &mut [f32]) -> usize
+// All corners, and how many candidates have each verdict.
+pub fn find_peaks(resp: &[f32], image: &[u8], scan: Scan, list: &mut [f32]) -> Verdicts
     requires { ⌜ Judging scan (length (now resp)) (length (now image)) ⌝ }
     requires { ⌜ scan .floor ≡ floorIn scan (now resp) ⌝ }
-    ensures { λ n. ⌜ Found scan (now (resp .entry)) (now (image .entry)) (now (list .entry)) n (now (list .exit)) ⌝ }
+    ensures { λ r. ⌜ Found scan (now (resp .entry)) (now (image .entry)) (now (list .entry)) r (now (list .exit)) ⌝ }
 {
     let h = scan.h;
     let b = scan.params.border();
     let ey = h - b;
-    let mut count: usize = 0;
+    let mut tally = [0usize; 6];
+    let mut above: usize = 0;
     for y in b..ey {
-        count = find_in_row(resp, image, scan, y, count, list);
+        above += above_in_row(resp, scan, y);
+        find_in_row(resp, image, scan, y, &mut tally, list);
     }
-    count
+    let all = (scan.w - 2 * b) * (ey - b);
+    by_subtraction(all, above, &tally)
 }

@@ -1,7 +1,7 @@
 -- Laws of `each f l`: f of every entry of l, one after the other. A filter, a row of places and a list of numbers are
 -- each an `each`, so `each-append` serves
 use mathlib.Core.Path.{_≡_, refl, sym, ap, _∙_}
-use mathlib.Core.Bool.{Bool, true, false, _&&_, _||_, or-assoc, or-true}
+use mathlib.Core.Bool.{Bool, true, false, not, _&&_, _||_, or-assoc, or-true, true≢false}
 use Prim.Native.Nat.{ℕ, zero, suc, _+_, _*_, _≤_}
 use native.Mathlib.Nat.{mul-zero, mul-suc}
 use native.Mathlib.Omega.{arith}
@@ -104,6 +104,41 @@ module _ {A : Type 0} where
       one : (b : Bool) → length (once b a) ≤ 1
       one true = omega arith
       one false = omega arith
+
+  -- where p holds q does: q counts no fewer
+  pub count-within : (p q : A → Bool) → ((a : A) → p a ≡ true → q a ≡ true) → (l : List A) → count p l ≤ count q l
+  unfolding count keep each
+  count-within p q h [] = omega arith
+  count-within p q h (a ∷ l) =
+      omega (
+        arith,
+        length-append (once (p a) a) (keep p l),
+        length-append (once (q a) a) (keep q l),
+        one (p a) (q a) (h a),
+        count-within p q h l,
+      )
+    where
+      one : (b c : Bool) → (b ≡ true → c ≡ true) → length (once b a) ≤ length (once c a)
+      one false c f = omega arith
+      one true true f = omega arith
+      one true false f = absurd (true≢false (sym (f refl)))
+
+  -- those at which p holds, and the others
+  pub count-either : (p : A → Bool) (l : List A) → count p l + count (λ a. not (p a)) l ≡ length l
+  unfolding count keep each
+  count-either p [] = refl
+  count-either p (a ∷ l) =
+      omega (
+        arith,
+        length-append (once (p a) a) (keep p l),
+        length-append (once (not (p a)) a) (keep (λ b. not (p b)) l),
+        one (p a),
+        count-either p l,
+      )
+    where
+      one : (b : Bool) → length (once b a) + length (once (not b) a) ≡ 1
+      one true = refl
+      one false = refl
 
   pub any-none : (p : A → Bool) → any p [] ≡ false
   unfolding any

@@ -2,6 +2,7 @@
 -- answer.
 use Prim.Native.Nat.{ℕ}
 use Rattle.params.specs.declared.answers.Answer.{Answer}
+use Rattle.params.specs.declared.answers.Verdicts.{Verdicts}
 use Rattle.params.specs.declared.answers.Outcome.{Outcome}
 use Rattle.params.specs.declared.answers.Answer.the-variants as answer
 
@@ -29,6 +30,10 @@ numberOf answer.NotFinite = 19
 numberOf answer.OutputTooShort = 20
 numberOf answer.Cameras = 21
 
--- "With every refusal, later ones too, W and H are reported as 0", and the count is 0
+-- no candidate is judged
+abbrev pub noVerdicts : Verdicts
+noVerdicts = record { «not_above» = 0; beaten = 0; «too_few» = 0; «too_flat» = 0; «wrong_curvature» = 0; kept = 0 }
+
+-- "With every refusal, later ones too, W and H are reported as 0", and the count is 0. Document 02: "A refused frame reports six zeros."
 abbrev pub refused : Answer → Outcome
-refused a = record { answer = a; count = 0; w = 0; h = 0 }
+refused a = record { answer = a; count = 0; w = 0; h = 0; verdicts = noVerdicts }

@@ -1,6 +1,6 @@
 // The numbered answers, and what a call reports with one.
 ghost use mathlib.Core.Path.{_≡_};
-ghost use Rattle.params.specs.Answers.{numberOf, refused};
+ghost use Rattle.params.specs.Answers.{numberOf, noVerdicts, refused};
 ghost use Rattle.params.specs.Refusals.{orElse};
 
 // What a call answers. The numbers are document 01's to 14, and document 02's from there on.
@@ -90,12 +90,39 @@ impl Answer {
     }
 }
 
-// What a call reports: its answer, how many corners it found, and the working image's sides.
+// How many candidates have each verdict, in the order of the rules: the first that they fail, or kept.
+pub struct Verdicts {
+    pub not_above: usize,
+    pub beaten: usize,
+    pub too_few: usize,
+    pub too_flat: usize,
+    pub wrong_curvature: usize,
+    pub kept: usize,
+}
+
+impl Verdicts {
+    // A call that judges no candidate has six zeros.
+    pub fn none() -> Self
+        ensures { λ r. ⌜ r ≡ noVerdicts ⌝ }
+    {
+        Self {
+            not_above: 0,
+            beaten: 0,
+            too_few: 0,
+            too_flat: 0,
+            wrong_curvature: 0,
+            kept: 0,
+        }
+    }
+}
+
+// What a call reports: its answer, how many corners it found, the working image's sides, and what became of the candidates.
 pub struct Outcome {
     pub answer: Answer,
     pub count: usize,
     pub w: usize,
     pub h: usize,
+    pub verdicts: Verdicts,
 }
 
 impl Outcome {
@@ -108,6 +135,7 @@ impl Outcome {
             count: 0,
             w: 0,
             h: 0,
+            verdicts: Verdicts::none(),
         }
     }
 }

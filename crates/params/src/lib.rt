@@ -6,6 +6,7 @@ mod settings;
 
 pub use answers::Answer;
 pub use answers::Outcome;
+pub use answers::Verdicts;
 pub use coordinates::Input;
 pub use coordinates::Working;
 pub use judges::judge_finder_call;

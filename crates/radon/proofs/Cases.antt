@@ -22,10 +22,10 @@ use Rattle.response.specs.declared.Mapped.{Mapped}
 use Rattle.response.specs.Map.{Buffers as MapBuffers, roomOf, sideOf, workOf, mapOf, mapped, mappedBy, mappedOf, mapBuffersOf}
 use Rattle.response.proofs.Runs.{Runs, runs-of, side-most}
 use Rattle.grid.specs.Ways.{value}
-use Rattle.detect.specs.Corners.{numbers, stride}
+use Rattle.detect.specs.Corners.{verdictsOf, numbers, stride}
 use Rattle.detect.specs.Detected.{workingRefusal, peaksRefusal, foundIn, peaksOutcome, listOf}
-use Rattle.detect.proofs.Inside.{corners-same, list-same}
-use Rattle.radon.specs.Finder.{Buffers, answered, found, outcomeOf, buffersOf}
+use Rattle.detect.proofs.Inside.{corners-same, verdicts-same, list-same}
+use Rattle.radon.specs.Finder.{Buffers, answered, found, judged, outcomeOf, buffersOf}
 
 -- ---- numbers of chains: where every stage passes, the chain does
 
@@ -105,10 +105,14 @@ module _ (f : ℕ → ℕ → ℕ) (w h : ℕ) (p : RadonDetectorParams) (b : Ma
     unfolding mappedBy
     work-at x y u v = getD-plane u (W * H) (workOf f w h p) (b .working) y 0 (pixel-in u v) working-room
 
-    -- the corners and the list over the two buffers are those of the map over the working image
+    -- the corners, the counts and the list over the two buffers are those of the map over the working image
     pub found-is : foundIn p W H (left .response) (left .working) ≡ found f w h p
     unfolding found
     found-is = corners-same p W H _ _ _ _ map-at work-at
+
+    pub judged-is : verdictsOf p W H (value (left .response) W) (pixel (left .working) W) ≡ judged f w h p
+    unfolding judged
+    judged-is = verdicts-same p W H _ _ _ _ map-at work-at
 
     pub list-is : (old : List Float) → written stride (numbers p (value (left .response) W)) (foundIn p W H (left .response) (left .working)) old
         ≡ written stride (numbers p (mapOf f w h p)) (found f w h p) old
@@ -170,6 +174,14 @@ module _ (img : List ℕ) (w h : ℕ) (p : RadonDetectorParams) (b : Buffers) {r
         let q =
         eq-eqb (numberOf (peaksRefusal (sideOf w p) (sideOf h p) p (min (length (M .response)) (length (M .working))))) 0
         (peaks-zero w h (length img) p (roomOf (b .map)) zero-answered _ have) in
-        let s1 = rw (c .0, c .1, c .2, q, found-is f w h p (b .map) (runs .working-room) (runs .response-room)) at s in
+        let s1 =
+        rw (
+          c .0,
+          c .1,
+          c .2,
+          q,
+          found-is f w h p (b .map) (runs .working-room) (runs .response-room),
+          judged-is f w h p (b .map) (runs .working-room) (runs .response-room),
+        ) at s in
         let l1 = rw (c .0, c .1, c .2, q, list-is f w h p (b .map) (runs .working-room) (runs .response-room) (b .list)) at l in
         (rw t s1, rw t (λ i. record { map = c .2 i; list = l1 i }))

@@ -35,6 +35,7 @@ use Rattle.response.proofs.Beyond.{Stays, stays}
 use Rattle.crests.specs.Maximum.{entry}
 use Rattle.detect.specs.Corners.{stride}
 use Rattle.detect.proofs.HigherSettings.{raised}
+use Rattle.detect.proofs.HigherCounts.{HigherCounts, HigherLeast}
 use Rattle.detect.proofs.Places.{OnFrame}
 use Rattle.radon.specs.Finder.{Buffers, Bytes, answered, outcomeOf, buffersOf}
 use Rattle.radon.proofs.Left.{Accepted, mapLeft, imageLeft, listLeft, runs, map-is, working-is, response-is, entry-is}
@@ -46,7 +47,7 @@ use Rattle.radon.proofs.Lists as lists
 abbrev pub pixels : ℕ → ℕ → RadonDetectorParams → ℕ
 pixels w h p = sideOf w p * sideOf h p
 
--- ---- D1. "Bad input gets a numbered refusal, a count of zero and untouched buffers." `refused` has count, W and H 0
+-- ---- D1. "Bad input gets a numbered refusal, a count of zero and untouched buffers." `refused` has count, W and H 0, and six zeros
 
 module _ (img : List ℕ) (w h : ℕ) (p : RadonDetectorParams) (b : Buffers) where
   pub refusal-leaves-all : (Accepted img w h p b → ⊥)
@@ -171,7 +172,7 @@ module _ (img : List ℕ) (w h : ℕ) (p : RadonDetectorParams) (b : Buffers) (a
         | inr k ↦ inr (logged _ (map-fits factor ray (p .«response_blur_radius») image w h (i % W) (i / W)) (k .0) (k .1))
       ])
 
-  -- "corners in row order": count, answer, W and H, and the list's numbers, from the response and the working image that were left
+  -- "corners in row order": count, answer, W and H, the six counts, and the list's numbers, from the response and the working image that were left
   pub list-is-corners : ListIs img w h p b
   list-is-corners = lists.list-is-corners img w h p b accepted
 
@@ -191,6 +192,24 @@ pub higher-setting : (img : List ℕ) (w h : ℕ) (p : RadonDetectorParams) (t :
     → (outcomeOf img w h p low) .count ≤ roomIn low → (outcomeOf img w h p low) .count ≤ roomIn high
     → Filtered img w h p t n low high
 higher-setting = lists.higher-setting
+
+-- The six counts of the two, whatever room their lists have: "not above" is no less, each but "too few" and it is no more, and none is lost.
+pub higher-setting-counts : (img : List ℕ) (w h : ℕ) (p : RadonDetectorParams) (t : Float) (n : ℕ) (low high : Buffers)
+    → Accepted img w h p low → Accepted img w h (raised p t n) high → T (le (p .«threshold_rel») t) → p .«min_cluster_size» ≤ n
+    → HigherCounts ((outcomeOf img w h p low) .verdicts) ((outcomeOf img w h (raised p t n) high) .verdicts)
+higher-setting-counts = lists.higher-verdicts
+
+-- With a higher fraction alone "too few" is no more either: only "not above" grows, by what the others lose.
+pub higher-fraction-counts : (img : List ℕ) (w h : ℕ) (p : RadonDetectorParams) (t : Float) (low high : Buffers) → let n = p .«min_cluster_size» in
+    Accepted img w h p low → Accepted img w h (raised p t n) high → T (le (p .«threshold_rel») t)
+    → (outcomeOf img w h (raised p t n) high) .verdicts .«too_few» ≤ (outcomeOf img w h p low) .verdicts .«too_few»
+higher-fraction-counts img w h p t low high y z e = lists.fewer-too-few img w h p t _ low high y z e refl
+
+-- With a higher least count alone "not above" and "beaten" are as they were, and only "too few" grows.
+pub higher-least-counts : (img : List ℕ) (w h : ℕ) (p : RadonDetectorParams) (n : ℕ) (low high : Buffers) → let q = raised p (p .«threshold_rel») n in
+    Accepted img w h p low → Accepted img w h q high → p .«min_cluster_size» ≤ n
+    → HigherLeast ((outcomeOf img w h p low) .verdicts) ((outcomeOf img w h q high) .verdicts)
+higher-least-counts img w h p n low high y z e = lists.higher-least-verdicts img w h p _ n low high y z refl e
 
 -- "A shorter list holds the opening corners of a longer one, with the same total."
 pub shorter-list : (img : List ℕ) (w h : ℕ) (p : RadonDetectorParams) (short long : Buffers)

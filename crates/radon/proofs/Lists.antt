@@ -3,7 +3,7 @@
 use mathlib.Core.Path.{_≡_, sym, ap, _∙_}
 use mathlib.Core.Bool.{Bool}
 use mathlib.Core.List.{List}
-use Prim.Native.Nat.{ℕ, zero, suc, _+_, _*_, _/_, _%_, _≤_, _<_, min}
+use Prim.Native.Nat.{ℕ, zero, suc, _+_, _-_, _*_, _/_, _%_, _≤_, _<_, min}
 use native.Mathlib.Nat.{add-zero}
 use native.Mathlib.Omega.{arith}
 use borrow.Author.Tests.{eq-eqb, le-leb, lt-leb}
@@ -21,8 +21,9 @@ use Rattle.grid.proofs.Over.{opening, shorter, past}
 use Rattle.grid.proofs.Entries.{all-at, each-entry}
 use Rattle.params.specs.declared.settings.RadonDetectorParams.{RadonDetectorParams}
 use Rattle.params.specs.declared.answers.Answer.the-variants.{Complete, ListFull}
+use Rattle.params.specs.declared.answers.Verdicts.{Verdicts}
 use Rattle.params.specs.declared.answers.Outcome.{Outcome}
-use Rattle.params.specs.Settings.{factorOf, rayOf}
+use Rattle.params.specs.Settings.{factorOf, rayOf, borderOf}
 use Rattle.params.specs.Answers.{numberOf}
 use Rattle.params.proofs.Accepted.{all-accepted}
 use Rattle.response.specs.Map.{roomOf, sideOf, mapOf}
@@ -30,14 +31,16 @@ use Rattle.response.proofs.MapFacts.{SameWritten, same-written, map-number}
 use Rattle.response.proofs.Runs.{Runs}
 use Rattle.verdict.specs.Window.{at}
 use Rattle.crests.specs.Maximum.{entry}
-use Rattle.detect.specs.Corners.{corners, numbers, stride}
+use Rattle.detect.specs.Corners.{corners, verdictsOf, numbers, stride}
 use Rattle.detect.specs.Detected.{fullOr}
 use Rattle.detect.proofs.Scanning.{numbers-long}
+use Rattle.detect.proofs.Kept.{kept-is-found}
 use Rattle.detect.proofs.HigherSettings.{raised, passesHigher, higher-corners}
+use Rattle.detect.proofs.HigherCounts.{totalOf, total-is, HigherCounts, higher-counts, few-fall, HigherLeast, higher-least}
 use Rattle.detect.proofs.Inside.{corners-same, list-same}
 use Rattle.detect.proofs.Places.{OnFrame, Inner, corners-inner, numbers-on-frame}
-use Rattle.radon.specs.Finder.{Buffers, Bytes, answered, found, outcomeOf, buffersOf}
-use Rattle.radon.proofs.Cases.{found-is, list-is}
+use Rattle.radon.specs.Finder.{Buffers, Bytes, answered, found, judged, outcomeOf, buffersOf}
+use Rattle.radon.proofs.Cases.{found-is, judged-is, list-is}
 use Rattle.radon.proofs.Left.{Accepted, mapLeft, imageLeft, listLeft, runs, left-is, working-is, response-is, byte-most}
 
 -- ---- what a call leaves, by name
@@ -45,6 +48,10 @@ use Rattle.radon.proofs.Left.{Accepted, mapLeft, imageLeft, listLeft, r
 -- the corners of that response and that working image, in row order
 abbrev pub cornersLeft : List ℕ → ℕ → ℕ → RadonDetectorParams → Buffers → List Place
 cornersLeft img w h p b = corners p (sideOf w p) (sideOf h p) (mapLeft img w h p b) (imageLeft img w h p b)
+
+-- how many of its candidates have each verdict
+abbrev pub verdictsLeft : List ℕ → ℕ → ℕ → RadonDetectorParams → Buffers → Verdicts
+verdictsLeft img w h p b = verdictsOf p (sideOf w p) (sideOf h p) (mapLeft img w h p b) (imageLeft img w h p b)
 
 -- "its room is its length divided by three, rounded down"
 abbrev pub roomIn : Buffers → ℕ
@@ -74,6 +81,11 @@ pub record ListIs (img : List ℕ) (w h : ℕ) (p : RadonDetectorParams) (b : Bu
   -- W and H
   pub wide : (outcomeOf img w h p b) .w ≡ sideOf w p
   pub high : (outcomeOf img w h p b) .h ≡ sideOf h p
+  -- the six counts, over the candidates of that response and that working image; kept is the total, and together they are
+  -- "(W − 2·border)(H − 2·border)"
+  pub verdicts : (outcomeOf img w h p b) .verdicts ≡ verdictsLeft img w h p b
+  pub kept : (outcomeOf img w h p b) .verdicts .kept ≡ (outcomeOf img w h p b) .count
+  pub all : totalOf ((outcomeOf img w h p b) .verdicts) ≡ (sideOf w p - 2 * borderOf p) * (sideOf h p - 2 * borderOf p)
   -- the numbers of the first corners, one after the other; entries beyond stay
   pub opens : take (stride * writtenBy img w h p b) (listLeft img w h p b)
       ≡ each (numbers p (mapLeft img w h p b)) (take (writtenBy img w h p b) (cornersLeft img w h p b))
@@ -97,6 +109,9 @@ module _ (img : List ℕ) (w h : ℕ) (p : RadonDetectorParams) (b : Buffers) (a
   pub corners-found : cornersLeft img w h p b ≡ found (pixel img w) w h p
   corners-found = rw (left-is img w h p b accepted) (found-is (pixel img w) w h p (b .map) (ran .working-room) (ran .response-room))
 
+  verdicts-judged : verdictsLeft img w h p b ≡ judged (pixel img w) w h p
+  verdicts-judged = rw (left-is img w h p b accepted) (judged-is (pixel img w) w h p (b .map) (ran .working-room) (ran .response-room))
+
   written-left : written stride (numbers p (mapLeft img w h p b)) (cornersLeft img w h p b) (b .list)
       ≡ written stride (numbers p (mapOf (pixel img w) w h p)) (found (pixel img w) w h p) (b .list)
   written-left = rw (left-is img w h p b accepted) (list-is (pixel img w) w h p (b .map) (ran .working-room) (ran .response-room) (b .list))
@@ -109,9 +124,10 @@ module _ (img : List ℕ) (w h : ℕ) (p : RadonDetectorParams) (b : Buffers) (a
     count = length (cornersLeft img w h p b);
     w = sideOf w p;
     h = sideOf h p;
+    verdicts = verdictsLeft img w h p b;
   }
   unfolding outcomeOf
-  outcome-left = rw (eq-eqb (numberOf (answered img w h p b)) 0 accepted, corners-found)
+  outcome-left = rw (eq-eqb (numberOf (answered img w h p b)) 0 accepted, corners-found, verdicts-judged)
 
   pub list-is-corners : ListIs img w h p b
   list-is-corners =
@@ -119,12 +135,17 @@ module _ (img : List ℕ) (w h : ℕ) (p : RadonDetectorParams) (b : Buffers) (a
       let g = numbers p (mapLeft img w h p b) in
       let long = numbers-long p (mapLeft img w h p b) in
       let k = min (length cs) (roomIn b) in
+      let total = ap (λ (o : Outcome). o .count) outcome-left in
+      let counts = ap (λ (o : Outcome). o .verdicts) outcome-left in
       record {
-        count = ap (λ (o : Outcome). o .count) outcome-left;
+        count = total;
         complete = λ l. ap (λ (o : Outcome). o .answer) outcome-left ∙ rw (le-leb (length cs) (roomIn b) l);
         full = λ l. ap (λ (o : Outcome). o .answer) outcome-left ∙ rw (lt-leb (length cs) (roomIn b) l);
         wide = ap (λ (o : Outcome). o .w) outcome-left;
         high = ap (λ (o : Outcome). o .h) outcome-left;
+        verdicts = counts;
+        kept = ap (λ (v : Verdicts). v .kept) counts ∙ kept-is-found p _ _ _ _ ∙ sym total;
+        all = ap totalOf counts ∙ total-is p _ _ _ _;
         opens = ap (take (stride * k)) list-left ∙ opening stride g long cs k (b .list) (omega arith) (omega arith);
         beyond = ap (drop (stride * k)) list-left ∙ past stride g long cs (b .list);
       }
@@ -280,11 +301,49 @@ module _ (img : List ℕ) (w h : ℕ) (p : RadonDetectorParams) (t : Float) (n :
         higher-list = ap (take (stride * length ds)) list-kept ∙ whole p f ds (high .list) (omega arith);
       }
 
+-- ---- the six counts of the two, whatever room their lists have
+
+module _ (img : List ℕ) (w h : ℕ) (p : RadonDetectorParams) (b : Buffers) (accepted : Accepted img w h p b) where
+  pub told-judged : (outcomeOf img w h p b) .verdicts ≡ judged (pixel img w) w h p
+  unfolding outcomeOf
+  told-judged = rw (eq-eqb (numberOf (answered img w h p b)) 0 accepted)
+
+module _ (img : List ℕ) (w h : ℕ) (p : RadonDetectorParams) (t : Float) (n : ℕ) (low high : Buffers)
+    (lower : Accepted img w h p low) (higher : Accepted img w h (raised p t n) high) where
+  -- what two settings' counts are to each other, they are in what the two calls report
+  by-told : (R : Verdicts → Verdicts → Type 0) → R (judged (pixel img w) w h p) (judged (pixel img w) w h (raised p t n))
+      → R ((outcomeOf img w h p low) .verdicts) ((outcomeOf img w h (raised p t n) high) .verdicts)
+  by-told R r = rw (told-judged img w h p low lower, told-judged img w h (raised p t n) high higher) r
+
+  module _ (fraction : T (le (p .«threshold_rel») t)) where
+    pub higher-verdicts : p .«min_cluster_size» ≤ n
+        → HigherCounts ((outcomeOf img w h p low) .verdicts) ((outcomeOf img w h (raised p t n) high) .verdicts)
+    unfolding judged
+    higher-verdicts least =
+        let u = all-accepted w h (length img) p (roomOf (low .map)) lower .2 in
+        let v = all-accepted w h (length img) (raised p t n) (roomOf (high .map)) higher .2 in
+        by-told HigherCounts (higher-counts p t n (sideOf w p) (sideOf h p) _ _ (u .least) fraction (v .least) (v .most) least)
+
+    pub fewer-too-few : n ≡ p .«min_cluster_size»
+        → (outcomeOf img w h (raised p t n) high) .verdicts .«too_few» ≤ (outcomeOf img w h p low) .verdicts .«too_few»
+    unfolding judged
+    fewer-too-few same =
+        let u = all-accepted w h (length img) p (roomOf (low .map)) lower .2 in
+        let v = all-accepted w h (length img) (raised p t n) (roomOf (high .map)) higher .2 in
+        by-told (λ a b. b .«too_few» ≤ a .«too_few»)
+        (rw same (few-fall p t (sideOf w p) (sideOf h p) _ _ (u .least) fraction (v .least) (v .most)))
+
+  pub higher-least-verdicts : t ≡ p .«threshold_rel» → p .«min_cluster_size» ≤ n
+      → HigherLeast ((outcomeOf img w h p low) .verdicts) ((outcomeOf img w h (raised p t n) high) .verdicts)
+  unfolding judged
+  higher-least-verdicts same least = by-told HigherLeast (rw same (higher-least p n (sideOf w p) (sideOf h p) _ _ least))
+
 -- ---- "A shorter list holds the opening corners of a longer one, with the same total."
 
 pub record ListOpens (img : List ℕ) (w h : ℕ) (p : RadonDetectorParams) (short long : Buffers)
     (shorter longer : Outcome) (shorter-left longer-left : List Float) : Type 0 where
   pub same-total : shorter .count ≡ longer .count
+  pub same-verdicts : shorter .verdicts ≡ longer .verdicts
   pub same-corners : cornersLeft img w h p short ≡ cornersLeft img w h p long
   -- what the shorter list holds is what the longer one begins with
   pub opening-corners : take (stride * writtenBy img w h p short) shorter-left ≡ take (stride * writtenBy img w h p short) longer-left
@@ -309,6 +368,7 @@ module _ (img : List ℕ) (w h : ℕ) (p : RadonDetectorParams) (short long : Bu
       let begin : Buffers → List Float = λ o. take (stride * min (length cs) (roomIn short)) (o .list) in
       record {
         same-total = list-is-corners img w h p short accepts-short .count ∙ ap length same ∙ sym (list-is-corners img w h p long accepts-long .count);
+        same-verdicts = told-judged img w h p short accepts-short ∙ sym (told-judged img w h p long accepts-long);
         same-corners = same;
         opening-corners = rw in-short
             (ap begin (left-is img w h p short accepts-short)

@@ -9,11 +9,12 @@ use Rattle.grid.specs.Rect.{Place}
 use Rattle.grid.specs.Over.{written}
 use Rattle.params.specs.declared.settings.RadonDetectorParams.{RadonDetectorParams}
 use Rattle.params.specs.declared.answers.Answer.{Answer}
+use Rattle.params.specs.declared.answers.Verdicts.{Verdicts}
 use Rattle.params.specs.declared.answers.Outcome.{Outcome}
 use Rattle.params.specs.Answers.{refused}
 use Rattle.params.specs.Refusals.{refusalOf}
 use Rattle.response.specs.Map.{Buffers as MapBuffers, mapLent, roomOf, sideOf, workOf, mapOf, mapped, accepts}
-use Rattle.detect.specs.Corners.{corners, numbers, stride}
+use Rattle.detect.specs.Corners.{corners, verdictsOf, numbers, stride}
 use Rattle.detect.specs.Detected.{fullOr}
 
 -- the eight lent buffers: the map's seven, and the list
@@ -38,7 +39,11 @@ answered img w h p b = refusalOf w h (length img) p (roomOf (b .map))
 unfoldable pub found : (ℕ → ℕ → ℕ) → ℕ → ℕ → RadonDetectorParams → List Place
 found f w h p = corners p (sideOf w p) (sideOf h p) (mapOf f w h p) (workOf f w h p)
 
--- 0 or 1 with what was found, W and H; or a refusal with zeros
+-- what became of its candidates: how many have each verdict
+unfoldable pub judged : (ℕ → ℕ → ℕ) → ℕ → ℕ → RadonDetectorParams → Verdicts
+judged f w h p = verdictsOf p (sideOf w p) (sideOf h p) (mapOf f w h p) (workOf f w h p)
+
+-- 0 or 1 with what was found, W and H, and the six counts; or a refusal with zeros
 unfoldable pub outcomeOf : List ℕ → ℕ → ℕ → RadonDetectorParams → Buffers → Outcome
 outcomeOf img w h p b =
     cond (accepts (answered img w h p b))
@@ -47,6 +52,7 @@ outcomeOf img w h p b =
       count = length (found (pixel img w) w h p);
       w = sideOf w p;
       h = sideOf h p;
+      verdicts = judged (pixel img w) w h p;
     })
     (refused (answered img w h p b))
 

@@ -11,8 +11,9 @@ use Rattle.grid.specs.Fill.{filled}
 use Rattle.grid.specs.Over.{over}
 use Rattle.big_endian.specs.BigEndian.{halfAt}
 use Rattle.params.specs.declared.answers.Answer.{Answer}
+use Rattle.params.specs.declared.answers.Verdicts.{Verdicts}
 use Rattle.params.specs.declared.answers.Outcome.{Outcome}
-use Rattle.params.specs.Answers.{numberOf, refused}
+use Rattle.params.specs.Answers.{numberOf, noVerdicts, refused}
 use Rattle.record.specs.Record.{most, head, headOf, cornersIn, wholeOf, bytesOf, recordOf, writeRefusal, writeOutcome, written}
 use Rattle.record.specs.Record.{countIn, numberIn, readRefusal, readOutcome, readBack}
 use Rattle.record.proofs.Taken.{refused-told, taken-told, refused-leaves, taken-leaves, WriteTaken, write-known, read-known}
@@ -45,12 +46,14 @@ module _ (v k w h : ℕ) (list : List Float) (old : List ℕ) {a : Answer} (judg
 
   module _ (z : n ≡ 0) where
     -- the head is put, and then the numbers
-    pub write-done : {mid out : List ℕ} → mid ≡ over (headOf v k w h (cornersIn k list)) old → out ≡ sets mid head (bytesOf (wholeOf k list))
-        → (record { answer = a; count = cornersIn k list; w = w; h = h } ≡ writeOutcome k w h list (length old)) × (out ≡ written v k w h list old)
+    pub write-done : {mid out : List ℕ} {none : Verdicts} → mid ≡ over (headOf v k w h (cornersIn k list)) old
+        → out ≡ sets mid head (bytesOf (wholeOf k list)) → none ≡ noVerdicts
+        → (record { answer = a; count = cornersIn k list; w = w; h = h; verdicts = none } ≡ writeOutcome k w h list (length old))
+        × (out ≡ written v k w h list old)
     unfolding writeOutcome written
-    write-done e q =
+    write-done e q d =
         rw (← judged) (
-          taken-told a is z (cornersIn k list) w h,
+          taken-told a is z (cornersIn k list) w h d,
           taken-leaves a is z (over (recordOf v k w h list) old) old (record-put v k w h list old e q),
         )
 
@@ -67,9 +70,9 @@ module _ (v k : ℕ) (file : List ℕ) (old : List Float) {a : Answer} (judged :
 
   module _ (z : n ≡ 0) where
     -- the numbers are stored, and the sides are read
-    pub read-done : {count w h : ℕ} {out : List Float} → count ≡ countIn file → w ≡ halfAt file 5 → h ≡ halfAt file 7
-        → out ≡ filled (k * count) (numberIn file) old
-        → (record { answer = a; count = count; w = w; h = h } ≡ readOutcome v k file (length old)) × (out ≡ readBack v k file old)
+    pub read-done : {count w h : ℕ} {out : List Float} {none : Verdicts} → count ≡ countIn file → w ≡ halfAt file 5 → h ≡ halfAt file 7
+        → out ≡ filled (k * count) (numberIn file) old → none ≡ noVerdicts
+        → (record { answer = a; count = count; w = w; h = h; verdicts = none } ≡ readOutcome v k file (length old)) × (out ≡ readBack v k file old)
     unfolding readOutcome readBack
-    read-done c e f q =
-        rw (← judged, ← c, ← e, ← f) (taken-told a is z _ _ _, taken-leaves a is z (filled (k * _) (numberIn file) old) old q)
+    read-done c e f q d =
+        rw (← judged, ← c, ← e, ← f) (taken-told a is z _ _ _ d, taken-leaves a is z (filled (k * _) (numberIn file) old) old q)

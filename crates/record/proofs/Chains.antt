@@ -23,7 +23,7 @@ use Rattle.big_endian.specs.BigEndian.{byteAt, halfAt}
 use Rattle.params.specs.declared.answers.Answer.{Answer}
 use Rattle.params.specs.declared.answers.Answer.the-variants.{Complete, CornerCount, NotFinite, OutputTooShort}
 use Rattle.params.specs.declared.answers.Outcome.{Outcome}
-use Rattle.params.specs.Answers.{numberOf, refused}
+use Rattle.params.specs.Answers.{numberOf, noVerdicts, refused}
 use Rattle.params.proofs.Accepted.{neither}
 use Rattle.record.specs.Record.{most, stray, outcomeWith, cornersIn, wholeOf, head, following, recordOf}
 use Rattle.record.specs.Record.{writeRefusal, writeOutcome, written, statedIn, countIn, numberIn, readRefusal, readOutcome, readBack}
@@ -173,13 +173,13 @@ module _ (v k : ℕ) (file : List ℕ) (room : ℕ) where
 -- ---- what is answered and left
 
 abbrev pub complete : ℕ → ℕ → ℕ → Outcome
-complete n w h = record { answer = Complete; count = n; w = w; h = h }
+complete n w h = record { answer = Complete; count = n; w = w; h = h; verdicts = noVerdicts }
 
 module _ (a : Answer) (n w h : ℕ) where
   pub answer-is : outcomeWith a n w h .answer ≡ a
   answer-is = go (eqb (numberOf a) 0)
     where
-      go : (t : Bool) → cond t (record { answer = a; count = n; w = w; h = h }) (refused a) .answer ≡ a
+      go : (t : Bool) → cond t (record { answer = a; count = n; w = w; h = h; verdicts = noVerdicts }) (refused a) .answer ≡ a
       go true = refl
       go false = refl
 

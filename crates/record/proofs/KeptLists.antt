@@ -39,7 +39,7 @@ use Rattle.big_endian.proofs.Numbers.{Bytes}
 use Rattle.params.specs.declared.answers.Answer.{Answer}
 use Rattle.params.specs.declared.answers.Answer.the-variants.{Complete, NotFinite}
 use Rattle.params.specs.declared.answers.Outcome.{Outcome}
-use Rattle.params.specs.Answers.{numberOf, refused}
+use Rattle.params.specs.Answers.{numberOf, noVerdicts, refused}
 use Rattle.record.specs.Record.{most, cornersIn, wholeOf, head, recordOf, writeRefusal, writeOutcome, written}
 use Rattle.record.specs.Record.{countIn, numberIn, readRefusal, readOutcome, readBack}
 use Rattle.record.proofs.Chains.{Finite, Takes, finite-passes, Sound, complete, answer-is, refused-is}
@@ -112,12 +112,12 @@ Beyond n new old = (drop n new ≡ drop n old) × (length new ≡ length old)
 
 -- what is left and answered, by the test whether the answer is 0
 beyond-over : (t : Bool) (a : Answer) (k w h n : ℕ) (bytes out : List ℕ) → length bytes ≡ sizeOf k n
-    → Beyond (sizeOf k (cond t (record { answer = a; count = n; w = w; h = h }) (refused a) .count)) (cond t (over bytes out) out) out
+    → Beyond (sizeOf k (cond t (record { answer = a; count = n; w = w; h = h; verdicts = noVerdicts }) (refused a) .count)) (cond t (over bytes out) out) out
 beyond-over true a k w h n bytes out e = (rw (← e) (drop-over bytes out), length-over bytes out)
 beyond-over false a k w h n bytes out e = (refl, refl)
 
 beyond-filled : (t : Bool) (a : Answer) (k w h n : ℕ) (f : ℕ → Float) (old : List Float)
-    → Beyond (k * cond t (record { answer = a; count = n; w = w; h = h }) (refused a) .count) (cond t (filled (k * n) f old) old) old
+    → Beyond (k * cond t (record { answer = a; count = n; w = w; h = h; verdicts = noVerdicts }) (refused a) .count) (cond t (filled (k * n) f old) old) old
 beyond-filled true a k w h n f old = (drop-filled (k * n) f old, length-filled (k * n) f old)
 beyond-filled false a k w h n f old = (refl, refl)
 

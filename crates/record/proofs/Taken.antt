@@ -14,8 +14,9 @@ use Rattle.grid.specs.Rect.{range}
 use Rattle.big_endian.specs.BigEndian.{byteAt}
 use Rattle.params.specs.declared.answers.Answer.{Answer}
 use Rattle.params.specs.declared.answers.Answer.the-variants.{Complete, RecordLength, RecordVersion, CornerCount, NotFinite, OutputTooShort}
+use Rattle.params.specs.declared.answers.Verdicts.{Verdicts}
 use Rattle.params.specs.declared.answers.Outcome.{Outcome}
-use Rattle.params.specs.Answers.{numberOf, refused}
+use Rattle.params.specs.Answers.{numberOf, noVerdicts, refused}
 use Rattle.params.specs.Refusals.{orElse}
 use Rattle.params.proofs.Accepted.{past, neither, stage-refuses}
 use Rattle.record.specs.Record.{most, head, following, stray, cornersIn, wholeOf, statedIn, countIn, numberIn}
@@ -28,8 +29,9 @@ module _ (a : Answer) {n : ℕ} (is : n ≡ numberOf a) where
   pub refused-told : (n ≡ 0 → ⊥) → {o : Outcome} → o ≡ refused a → (c w h : ℕ) → o ≡ outcomeWith a c w h
   refused-told z e c w h = rw (← is, ne-eqb n 0 z) e
 
-  pub taken-told : n ≡ 0 → (c w h : ℕ) → record { answer = a; count = c; w = w; h = h } ≡ outcomeWith a c w h
-  taken-told z c w h = rw (← is, eq-eqb n 0 z)
+  pub taken-told : n ≡ 0 → (c w h : ℕ) {v : Verdicts} → v ≡ noVerdicts
+      → record { answer = a; count = c; w = w; h = h; verdicts = v } ≡ outcomeWith a c w h
+  taken-told z c w h e = rw (← is, eq-eqb n 0 z, e)
 
   pub refused-leaves : (n ≡ 0 → ⊥) → {A : Type 0} (new old : A) → old ≡ unlessRefused a new old
   refused-leaves z new old = rw (← is, ne-eqb n 0 z)

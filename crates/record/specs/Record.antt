@@ -15,7 +15,7 @@ use Rattle.big_endian.specs.BigEndian.{byteAt, halfAt, wordAt, halfBytes, wordB
 use Rattle.params.specs.declared.answers.Answer.{Answer}
 use Rattle.params.specs.declared.answers.Answer.the-variants.{Complete, RecordLength, RecordVersion, CornerCount, NotFinite, OutputTooShort}
 use Rattle.params.specs.declared.answers.Outcome.{Outcome}
-use Rattle.params.specs.Answers.{numberOf, refused}
+use Rattle.params.specs.Answers.{numberOf, noVerdicts, refused}
 
 -- "version byte 1", and "x, y and strength .. for each corner"
 abbrev pub version : ℕ
@@ -33,9 +33,9 @@ abbrev pub stray : Float → Bool
 stray x = not (finite x)
 
 -- "With every refusal, later ones too, W and H are reported as 0" (document 01), and the count is 0; otherwise that many
--- corners and those sides
+-- corners and those sides. A record has no candidates: no verdicts either way
 abbrev pub outcomeWith : Answer → ℕ → ℕ → ℕ → Outcome
-outcomeWith a n w h = cond (eqb (numberOf a) 0) (record { answer = a; count = n; w = w; h = h }) (refused a)
+outcomeWith a n w h = cond (eqb (numberOf a) 0) (record { answer = a; count = n; w = w; h = h; verdicts = noVerdicts }) (refused a)
 
 -- "output untouched": what a call leaves of a buffer
 abbrev pub unlessRefused : {A : Type 0} → Answer → A → A → A

@@ -12,6 +12,7 @@ use big_endian::half_at;
 use big_endian::word_at;
 use params::Answer;
 use params::Outcome;
+use params::Verdicts;
 ghost use mathlib.Core.Path.{_≡_};
 ghost use Prim.Native.Nat.{_≤_};
 ghost use lib.ListN.{length};
@@ -119,5 +120,6 @@ pub fn read_record(file: &[u8], list: &mut [f32]) -> Outcome
         count,
         w: half_at(file, 5) as usize,
         h: half_at(file, 7) as usize,
+        verdicts: Verdicts::none(),
     }
 }

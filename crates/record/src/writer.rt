@@ -11,6 +11,7 @@ use big_endian::put_half;
 use big_endian::put_word;
 use params::Answer;
 use params::Outcome;
+use params::Verdicts;
 ghost use mathlib.Core.Path.{_≡_};
 ghost use Prim.Native.Nat.{_+_, _*_, _≤_};
 ghost use lib.ListN.{length, take};
@@ -84,5 +85,6 @@ pub fn write_record(w: u16, h: u16, list: &[f32], out: &mut [u8]) -> Outcome
         count,
         w: w as usize,
         h: h as usize,
+        verdicts: Verdicts::none(),
     }
 }

@@ -2,6 +2,7 @@
 // function: answer, count and sides, every number of the list, to the bit, and that each work entry which no frame reaches is as it was.
 use libc::STDIN_FILENO;
 use params::Outcome;
+use params::Verdicts;
 use replay::Compared;
 use replay::Walk;
 
@@ -273,7 +274,7 @@ fn count_camera(told: Outcome, cameras: &mut [usize; 32]) {
     count(cameras, ALL, 1);
 }
 
-// The answer, which for an accepted frame is listed as 0, and the sides; with a refusal no corners.
+// The answer, which for an accepted frame is listed as 0, and the sides; as many kept as found, and with a refusal no corners and six zeros.
 fn listed(told: Outcome, s: &[u8], at: usize) -> Compared {
     let answer = told.answer;
     let number = answer.number() as u64;
@@ -283,11 +284,13 @@ fn listed(told: Outcome, s: &[u8], at: usize) -> Compared {
     );
     let due = vectors::word(s, at);
     let next = vectors::skip(s, at, 12);
+    let v = told.verdicts;
     if number <= 1 {
+        let kept = vectors::differ(v.kept as u64, told.count as u64);
         return Compared {
             next,
-            wrong: vectors::plus(vectors::differ(0, due), sides),
-            values: 3,
+            wrong: vectors::plus(vectors::differ(0, due), vectors::plus(sides, kept)),
+            values: 4,
         };
     }
     let head = vectors::plus(
@@ -296,9 +299,28 @@ fn listed(told: Outcome, s: &[u8], at: usize) -> Compared {
     );
     Compared {
         next,
-        wrong: vectors::plus(head, sides),
-        values: 4,
+        wrong: vectors::plus(head, vectors::plus(sides, six(v, Verdicts::none()))),
+        values: 10,
     }
+}
+
+// Of two calls' six counts, those that differ.
+fn six(a: Verdicts, b: Verdicts) -> usize {
+    let window = vectors::plus(
+        vectors::differ(a.not_above as u64, b.not_above as u64),
+        vectors::plus(
+            vectors::differ(a.beaten as u64, b.beaten as u64),
+            vectors::differ(a.too_few as u64, b.too_few as u64),
+        ),
+    );
+    let saddle = vectors::plus(
+        vectors::differ(a.too_flat as u64, b.too_flat as u64),
+        vectors::plus(
+            vectors::differ(a.wrong_curvature as u64, b.wrong_curvature as u64),
+            vectors::differ(a.kept as u64, b.kept as u64),
+        ),
+    );
+    vectors::plus(window, saddle)
 }
 
 // Two outcomes.
@@ -315,7 +337,7 @@ fn same(told: Outcome, single: Outcome) -> Compared {
     );
     Compared {
         next: 0,
-        wrong: vectors::plus(head, sides),
-        values: 4,
+        wrong: vectors::plus(head, vectors::plus(sides, six(told.verdicts, single.verdicts))),
+        values: 10,
     }
 }

@@ -1,8 +1,9 @@
-// Replays frames through the finder and compares the lists: count, strengths and order to the bit in both modes, places to the bit in parabolic
-// mode. In Gaussian mode the original's logarithm is the platform's: of those places it counts which agree to the bit, which lie within 0.001, and
+// Replays frames through the finder and compares the lists: count, the six counts by verdict, strengths and order to the bit in both modes, places to
+// the bit in parabolic mode. In Gaussian mode the original's logarithm is the platform's: of those places it counts which agree to the bit, which lie within 0.001, and
 // which beyond.
 use libc::STDIN_FILENO;
 use params::Outcome;
+use params::Verdicts;
 use replay::Walk;
 
 // No record has more corners than the program's list takes.
@@ -76,10 +77,11 @@ fn found(file: &[u8], s: &[u8], at: usize) -> Compared {
     let mut list = [0.0f32; 768];
     let outcome = program::run_with_room(file, &mut list);
     let first = sides(outcome, s, at);
+    let six = counts(outcome.verdicts, s, first.next);
     let many = vectors::capped(vectors::word(s, vectors::skip(s, at, 8)), MOST);
     then(
-        first,
-        corners(&list, many, s, first.next, vectors::gaussian(file)),
+        then(first, six),
+        corners(&list, many, s, six.next, vectors::gaussian(file)),
     )
 }
 
@@ -101,6 +103,35 @@ fn sides(outcome: Outcome, s: &[u8], at: usize) -> Compared {
         0,
         0,
     )
+}
+
+// The six counts, in the order of the rules.
+fn counts(v: Verdicts, s: &[u8], at: usize) -> Compared {
+    let window = vectors::plus(
+        count(v.not_above, s, at),
+        vectors::plus(
+            count(v.beaten, s, vectors::skip(s, at, 4)),
+            count(v.too_few, s, vectors::skip(s, at, 8)),
+        ),
+    );
+    let saddle = vectors::plus(
+        count(v.too_flat, s, vectors::skip(s, at, 12)),
+        vectors::plus(
+            count(v.wrong_curvature, s, vectors::skip(s, at, 16)),
+            count(v.kept, s, vectors::skip(s, at, 20)),
+        ),
+    );
+    one(
+        vectors::skip(s, at, 24),
+        vectors::plus(window, saddle),
+        0,
+        0,
+        0,
+    )
+}
+
+fn count(n: usize, s: &[u8], at: usize) -> usize {
+    vectors::differ(n as u64, vectors::word(s, at))
 }
 
 // As many corners as the record has, so that the next record is found even where this one disagrees.

@@ -14,13 +14,14 @@ use Rattle.float.specs.Values.{f0}
 use Rattle.grid.proofs.Plane.{row-in, next-row, row-above}
 use Rattle.grid.specs.Each.{any, count}
 use Rattle.grid.proofs.Each.{any-none, any-append, count-append, count-most, count-none, count-yes, count-no}
-use Rattle.grid.specs.Rect.{Place, place, rect, line, range}
-use Rattle.grid.proofs.Rect.{before, rect-at, any-in, any-line-none, count-line, length-line, count-range-ext}
+use Rattle.grid.specs.Rect.{Place, place, rect, line}
+use Rattle.grid.proofs.Rect.{before, rect-at, any-in, any-line-none, length-line}
 use Rattle.grid.proofs.Rect.{Down, down-none, down-row, down-all, keep-line-ext, keep-rect-ext}
 use Rattle.grid.specs.Ways.{value}
 use Rattle.crests.specs.Maximum.{entry}
 use Rattle.verdict.specs.Window.{at, window, same, beaten, positives}
-use Rattle.crests.specs.Crests.{over, Next}
+use Rattle.crests.specs.Crests.{over, aboveCount, Next}
+use Rattle.crests.proofs.Passing.{part-above}
 use Rattle.verdict.specs.Room.{Room, Cross, RowRoom, nearest, rowPart, positivesThere}
 
 -- a row of the window lies within the buffer
@@ -119,10 +120,10 @@ module _ (s : List Float) {w x r yy : ℕ} (m : RowRoom w x r yy (length s)) {pa
       any-in _ (x - r) (x + r + 1) (y - r) (y + r + 1) (x - r + i) yy (omega arith) (omega arith) l h
       (ap (lt v) (sym (part-value i b)) ∙ t .found (omega (arith, part-length)))
 
-  part-count : count (over f0 part) (range 0 (length part)) ≡ count (λ q. lt f0 (at (value s w) q)) (line (x - r) (x + r + 1) yy)
-  part-count =
-      let n : x + r + 1 - (x - r) ≡ r + r + 1 = omega arith in
-      rw (part-length, count-line, n) (count-range-ext _ _ 0 (r + r + 1) (λ i a b. ap (lt f0) (part-value i b)))
+  part-count : {n : ℕ} → w ≤ 8192 → n ≡ aboveCount f0 part → n ≡ count (λ q. lt f0 (at (value s w) q)) (line (x - r) (x + r + 1) yy)
+  part-count wide u =
+      let n : r + r + 1 ≡ x + r + 1 - (x - r) = omega arith in
+      part-above f0 (value s w) part (x - r) (x + r + 1) yy (part-length ∙ n) (omega arith) (λ k b. part-value k (omega arith)) u
 
 -- ---- the two loops over the window's rows
 
@@ -171,12 +172,12 @@ module _ (s : List Float) {w h r x y : ℕ} (m : Room w h r x y (length s)) wher
   count-none-yet = record { rows = down-none _ _ _ _ _ (omega arith) (count-none _); few = omega arith }
 
   module _ {n yy : ℕ} (t : CountTo s w x y r n yy) where
-    pub count-row : {part : List Float} {k : ℕ} → yy < y + r + 1 → part ≡ rowPart s w x r yy → k ≡ count (over f0 part) (range 0 (length part))
+    pub count-row : {part : List Float} {k : ℕ} → yy < y + r + 1 → part ≡ rowPart s w x r yy → k ≡ aboveCount f0 part
         → CountTo s w x y r (n + k) (yy + 1)
     count-row {part} {k} b e u =
         let p : Place → Bool = λ q. lt f0 (at (value s w) q) in
         let row = line (x - r) (x + r + 1) yy in
-        let z : k ≡ count p row = u ∙ part-count s (room-row m b) e in
+        let z : k ≡ count p row = part-count s (room-row m b) e (m .wide) u in
         record {
           rows = down-row _ _ _ _ _ _ (t .rows) b (λ o. rw (count-append, ← o, ← z));
           few = omega (arith, z, count-most p row, length-line (x - r) (x + r + 1) yy);

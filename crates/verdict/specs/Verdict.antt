@@ -2,7 +2,7 @@
 -- A map f and an image g are functions: f x y and g x y are what column x of row y has.
 use mathlib.Core.Bool.{Bool, true, false, not, cond}
 use Prim.Native.Nat.{ℕ}
-use lib.Dec.{leb}
+use lib.Dec.{leb, eqb}
 use lib.Ieee.{Float, lt}
 use Rattle.grid.specs.Rect.{Place, place}
 use Rattle.params.specs.declared.settings.RadonDetectorParams.{RadonDetectorParams}
@@ -44,3 +44,17 @@ isKept TooFew = false
 isKept TooFlat = false
 isKept WrongCurvature = false
 isKept Kept = true
+
+-- how many of the five tests are passed before one fails: above, not beaten, enough, not flat, curved both ways. It numbers the verdicts in
+-- document 02's order
+abbrev pub rank : Verdict → ℕ
+rank NotAbove = 0
+rank Beaten = 1
+rank TooFew = 2
+rank TooFlat = 3
+rank WrongCurvature = 4
+rank Kept = 5
+
+-- whether two verdicts are the same
+abbrev pub sameVerdict : Verdict → Verdict → Bool
+sameVerdict v u = eqb (rank v) (rank u)

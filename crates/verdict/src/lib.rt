@@ -10,7 +10,7 @@ use saddle::accepts;
 use sizes::square_fits;
 ghost use mathlib.Core.Path.{_≡_};
 ghost use lib.ListN.{length};
-ghost use Rattle.verdict.specs.Verdict.{bySaddle, isKept};
+ghost use Rattle.verdict.specs.Verdict.{bySaddle, isKept, rank as rankOf};
 ghost use Rattle.verdict.specs.Judged.{firstFailingIn, judgedIn};
 ghost use Rattle.verdict.specs.Room.{Room};
 
@@ -29,6 +29,20 @@ pub fn is_kept(v: Verdict) -> bool
     match v {
         Verdict::Kept => true,
         _ => false,
+    }
+}
+
+// How many of the five tests are passed before one fails; all five where it is kept.
+pub fn rank(v: Verdict) -> usize
+    ensures { λ r. ⌜ r ≡ rankOf v ⌝ }
+{
+    match v {
+        Verdict::NotAbove => 0,
+        Verdict::Beaten => 1,
+        Verdict::TooFew => 2,
+        Verdict::TooFlat => 3,
+        Verdict::WrongCurvature => 4,
+        Verdict::Kept => 5,
     }
 }
 

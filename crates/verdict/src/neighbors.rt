@@ -1,15 +1,13 @@
 // The two tests of a candidate's square window. The source's tests for the map's edge are gone: a candidate lies so far inside
 // (ray + suppression radius + 1) that they never fire, and each function asks for that.
+use crests::count_above;
 use crests::first_above;
 ghost use mathlib.Core.Path.{_≡_};
 ghost use mathlib.Core.Bool.{not};
 ghost use Prim.Native.Nat.{_+_, _*_, _<_, _≤_};
 ghost use lib.ListN.{length};
-ghost use Rattle.grid.specs.Each.{count};
-ghost use Rattle.grid.specs.Rect.{place, range};
+ghost use Rattle.grid.specs.Rect.{place};
 ghost use Rattle.grid.specs.Ways.{value};
-ghost use Rattle.float.specs.Values.{f0};
-ghost use Rattle.crests.specs.Crests.{over};
 ghost use Rattle.verdict.specs.Window.{beaten, positives};
 ghost use Rattle.verdict.specs.Room.{Room, Cross, RowRoom, nearest, rowPart, positivesThere};
 
@@ -54,21 +52,6 @@ pub fn is_local_max(resp: &[f32], w: usize, h: usize, x: usize, y: usize, r: usi
     true
 }
 
-// How many values are above zero. No branch depends on another, so several are counted at once.
-fn positive_in(part: &[f32]) -> u32
-    requires { ⌜ length (now part) ≤ 8192 ⌝ }
-    ensures { λ n. ⌜ n ≡ count (over f0 (now (part .entry))) (range 0 (length (now (part .entry)))) ⌝ }
-{
-    let e = part.len();
-    let mut n: u32 = 0;
-    for i in 0..e {
-        if part[i] > 0.0 {
-            n += 1;
-        }
-    }
-    n
-}
-
 // How many values in the window of radius r about (x, y) are above zero, the one there counted too.
 fn positive_in_window(resp: &[f32], w: usize, h: usize, x: usize, y: usize, r: usize) -> u32
     requires { ⌜ Room w h r x y (length (now resp)) ⌝ }
@@ -78,7 +61,7 @@ fn positive_in_window(resp: &[f32], w: usize, h: usize, x: usize, y: usize, r: u
     let ey = y + r + 1;
     let mut count: u32 = 0;
     for yy in ay..ey {
-        count += positive_in(row_part(resp, w, x, r, yy));
+        count += count_above(row_part(resp, w, x, r, yy), 0.0);
     }
     count
 }

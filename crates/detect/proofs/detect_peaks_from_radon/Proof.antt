@@ -87,8 +87,8 @@ returns-2 c =
     let f = p .find-peaks in
     answers (o .params) (o .w) (o .h) (o .response .now) (o .image .now) (o .list .now)
     (refusal j) (t .before .number .ensures) (t .if1 .left) (p .before .before .scan-of .ensures) (f .ensures)
-    (all-stored (f .result) (length (o .list .now) / stride)
-    (c .before .lesser2 .ensures ∙ ap (λ n. min (f .result) (n / stride)) (f .kept .1 .1 .1 .0)) (c .full-or .ensures))
+    (all-stored (f .result .kept) (length (o .list .now) / stride)
+    (c .before .lesser2 .ensures ∙ ap (λ n. min (f .result .kept) (n / stride)) (f .kept .1 .1 .1 .0)) (c .full-or .ensures))
 
 pub detect-peaks-from-radon-spec : {M : Type 1} → statement M
 detect-peaks-from-radon-spec =

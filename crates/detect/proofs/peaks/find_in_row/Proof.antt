@@ -1,5 +1,6 @@
 -- `detect::peaks::find_in_row` meets its contract. The invariant is `Scanned`: what the row has, up to the place where the search stands.
 -- Assumes nothing.
+use mathlib.Core.Path.{sym, _∙_}
 use Prim.Native.Nat.{_-_}
 use native.Mathlib.Omega.{arith}
 use Rattle.detect.proofs.Scanning.{Scanned, scan-none, scan-on, scan-turn, scan-all, candidate, nearer}
@@ -8,25 +9,25 @@ use Rattle.detect.proofs.peaks.find_in_row.Statement.{statement}
 use Rattle.detect.proofs.peaks.find_in_row.Tie as tie
 
 abbrev Inv-loop : tie.InvT-loop
-Inv-loop resp image scan y n list₀ b ex count₀ x₀ list count x = Scanned scan resp image y list₀ n list count x
+Inv-loop resp image scan y tally₀ list₀ b ex x₀ tally list x = Scanned scan resp image y list₀ tally₀ list tally x
 
 abbrev μ-loop : tie.MeasureT-loop
-μ-loop resp image scan y n list₀ b ex count₀ x₀ list count x = ex - x
+μ-loop resp image scan y tally₀ list₀ b ex x₀ tally list x = ex - x
 
 -- from the border back to the start
 abbrev start : tie.After-border Inv-loop μ-loop → tie.Start Inv-loop μ-loop
-start c = c .before .before .before .before
+start c = c .before .before .before .before .before
 
 -- from the loop back to the border
 abbrev bordered : tie.At-loop Inv-loop μ-loop → tie.After-border Inv-loop μ-loop
 bordered c = c .before .before .before
 
 -- a turn: its test, from the candidate that was judged, and from where the search went on
-abbrev turn : tie.After-list-if-kept Inv-loop μ-loop → tie.In-loop Inv-loop μ-loop
-turn c = c .before .before
+abbrev turn : tie.After-judge-and-list Inv-loop μ-loop → tie.In-loop Inv-loop μ-loop
+turn c = c .before .before .before
 
-abbrev judged : tie.After-next-in-row2 Inv-loop μ-loop → tie.After-list-if-kept Inv-loop μ-loop
-judged c = c .before .before .before
+abbrev judged : tie.After-next-in-row2 Inv-loop μ-loop → tie.After-judge-and-list Inv-loop μ-loop
+judged c = c .before .before .before .before .before
 
 border-requires : tie.Need-border-requires Inv-loop μ-loop
 border-requires c κs = search needs
@@ -42,9 +43,9 @@ loop-holds c =
     let b = c .before .before in
     scan-on (start b .pre) (b .border .ensures) (scan-none (start b .pre) (b .border .ensures)) (c .next-in-row .ensures)
 
-list-if-kept-requires : tie.Need-list-if-kept-requires Inv-loop μ-loop
-list-if-kept-requires c κs =
-    let t = c .before in
+judge-and-list-requires : tie.Need-judge-and-list-requires Inv-loop μ-loop
+judge-and-list-requires c κs =
+    let t = c .before .before in
     let b = bordered (t .before) in
     candidate (start b .pre) (b .border .ensures) (t .before .loop .inv) (t .loop-test .taken)
 
@@ -63,11 +64,16 @@ loop-again c =
     let t = turn k in
     let b = bordered (t .before) in
     scan-on (start b .pre) (b .border .ensures)
-    (scan-turn (start b .pre) (b .border .ensures) (t .before .loop .inv) (t .loop-test .taken) (k .list-if-kept .ensures))
+    (scan-turn (start b .pre) (b .border .ensures) (t .before .loop .inv) (t .loop-test .taken) (k .judge-and-list .ensures))
     (c .next-in-row2 .ensures)
 
 same-length : tie.Need-same-length Inv-loop μ-loop
-same-length c = c .before .loop .inv .across .holds .same
+same-length c =
+    let l = c .before in
+    l .loop .inv .tally .long ∙ sym (start (bordered l) .pre .tally .long)
+
+same-length-2 : tie.Need-same-length-2 Inv-loop μ-loop
+same-length-2 c = c .before .loop .inv .across .holds .0 .same
 
 returns : tie.Need-returns Inv-loop μ-loop
 returns c =
@@ -84,10 +90,11 @@ find-in-row-spec =
     sub-ex
     next-in-row-requires
     loop-holds
-    list-if-kept-requires
+    judge-and-list-requires
     add-next-in-row
     next-in-row-requires-2
     loop-less
     loop-again
     same-length
+    same-length-2
     returns)

@@ -1,20 +1,37 @@
--- `detect::peaks::find_peaks` meets its contract. The invariant is `FoundTo`: what is found in the rows above. Assumes nothing.
-use Prim.Native.Nat.{_-_}
+-- `detect::peaks::find_peaks` meets its contract. The invariant is `FoundTo`: what is found and counted in the rows above. Assumes nothing.
+use mathlib.Core.Path.{_≡_, ap}
+use Prim.Native.Nat.{ℕ, _-_, _*_, _<_}
+use native.Mathlib.Nat.{mul-le-mul}
 use native.Mathlib.Omega.{arith}
-use Rattle.detect.proofs.Scanning.{FoundTo, found-none, found-more, found-all, finding}
+use mir.Facts.{fits-le, fits-lit}
+use lib.ListN.{length}
+use Rattle.detect.specs.Scan.{borderIn, Judging, Finding}
+use Rattle.detect.proofs.Rows.{Summed, FoundTo, found-none, found-more, found-inside, found-all, finding, subtracts}
 use borrow.Author.Needs.{needs}
 use Rattle.detect.proofs.peaks.find_peaks.Statement.{statement}
 use Rattle.detect.proofs.peaks.find_peaks.Tie as tie
 
 abbrev Inv-loop : tie.InvT-loop
-Inv-loop resp image scan list₀ h b ey count₀ y₀ list count y = FoundTo scan resp image list₀ list count y
+Inv-loop resp image scan list₀ h b ey tally₀ above₀ y₀ list tally above y = FoundTo scan resp image list₀ list tally above y
 
 abbrev μ-loop : tie.MeasureT-loop
-μ-loop resp image scan list₀ h b ey count₀ y₀ list count y = ey - y
+μ-loop resp image scan list₀ h b ey tally₀ above₀ y₀ list tally above y = ey - y
 
 -- from the border back to the start
 abbrev start : tie.After-border Inv-loop μ-loop → tie.Start Inv-loop μ-loop
 start c = c .before .before .before .before
+
+-- from a row that is scanned back to its count, and from there to the turn's test
+abbrev counted : tie.After-find-in-row Inv-loop μ-loop → tie.After-above-in-row Inv-loop μ-loop
+counted c = c .before .before .before
+
+-- from the tally at the end back to the loop
+abbrev looped : tie.After-tally3 Inv-loop μ-loop → tie.At-loop Inv-loop μ-loop
+looped c = c .before .before .before
+
+-- how many candidates a border n leaves
+abbrev product : ℕ → ℕ → ℕ → ℕ
+product w h n = (w - 2 * n) * (h - n - n)
 
 border-requires : tie.Need-border-requires Inv-loop μ-loop
 border-requires c κs = search needs
@@ -25,9 +42,21 @@ sub-ey c = omega (arith, start c .pre .0 .asked .higher)
 loop-holds : tie.Need-loop-holds Inv-loop μ-loop
 loop-holds c = found-none (c .border .ensures) (start c .pre .0 .asked .higher)
 
+above-in-row-requires : tie.Need-above-in-row-requires Inv-loop μ-loop
+above-in-row-requires c κs =
+    let l = c .before in
+    let j = start (l .before) .pre .0 in
+    (j .asked .wider, j .asked .wide, finding (l .loop .inv) j (omega arith) .row)
+
+add-above : tie.Need-add-above Inv-loop μ-loop
+add-above c = omega arith
+
+slice-aggregate-find-in-row : tie.Need-slice-aggregate-find-in-row Inv-loop μ-loop
+slice-aggregate-find-in-row c = search needs
+
 find-in-row-requires : tie.Need-find-in-row-requires Inv-loop μ-loop
 find-in-row-requires c κs =
-    let l = c .before .before in
+    let l = c .before .before .before .before in
     finding (l .loop .inv) (start (l .before) .pre .0) (omega arith)
 
 add-y : tie.Need-add-y Inv-loop μ-loop
@@ -38,17 +67,45 @@ loop-less c = omega arith
 
 loop-again : tie.Need-loop-again Inv-loop μ-loop
 loop-again c =
-    let r = c .before .before in
-    let l = r .before .before .before in
-    found-more (l .loop .inv) (start (l .before) .pre .0 .asked .wide) (omega arith) (r .find-in-row .ensures)
+    let r = c .before .before .before in
+    let a = counted r in
+    let l = a .before .before in
+    found-more (l .loop .inv) (start (l .before) .pre .0 .asked .wide) (omega arith) (a .above-in-row .ensures) (r .find-in-row .ensures)
+
+mul-all : tie.Need-mul-all Inv-loop μ-loop
+mul-all c = omega arith
+
+sub-all : tie.Need-sub-all Inv-loop μ-loop
+sub-all c = omega arith
+
+sub-all-2 : tie.Need-sub-all-2 Inv-loop μ-loop
+sub-all-2 c = omega arith
+
+mul-all-2 : tie.Need-mul-all-2 Inv-loop μ-loop
+mul-all-2 c =
+    let a = start (c .before .before .before) .pre .0 .asked in
+    fits-le (mul-le-mul {n₂ = 8192} {m₂ = 8192} (omega (arith, a .wide)) (omega (arith, a .high))) (fits-lit tt)
+
+slice-aggregate-by-subtraction : tie.Need-slice-aggregate-by-subtraction Inv-loop μ-loop
+slice-aggregate-by-subtraction c = search needs
+
+by-subtraction-requires : tie.Need-by-subtraction-requires Inv-loop μ-loop
+by-subtraction-requires c κs =
+    let l = looped c in
+    let b = l .before in
+    let a = start b .pre .0 .asked in
+    let s = subtracts (found-inside (l .loop .inv) (omega arith)) (ap (product (start b .args .scan .w) (start b .args .scan .h)) (b .border .ensures)) (a .wide) (a .high) in
+    (s .0, s .1, s .2, l .loop .inv .tally .long)
 
 same-length : tie.Need-same-length Inv-loop μ-loop
-same-length c = c .before .loop .inv .down .holds .long
+same-length c = looped (c .before) .loop .inv .down .holds .list .long
 
 returns : tie.Need-returns Inv-loop μ-loop
 returns c =
-    let l = c .before in
-    found-all (l .loop .inv) (omega arith) (start (l .before) .pre .1)
+    let l = looped (c .before) in
+    let b = l .before in
+    found-all (found-inside (l .loop .inv) (omega arith)) (ap (product (start b .args .scan .w) (start b .args .scan .h)) (b .border .ensures))
+    (start b .pre .1) (c .by-subtraction .ensures)
 
 pub find-peaks-spec : {M : Type 1} → statement M
 find-peaks-spec =
@@ -59,9 +116,18 @@ find-peaks-spec =
     border-requires
     sub-ey
     loop-holds
+    above-in-row-requires
+    add-above
+    slice-aggregate-find-in-row
     find-in-row-requires
     add-y
     loop-less
     loop-again
+    mul-all
+    sub-all
+    sub-all-2
+    mul-all-2
+    slice-aggregate-by-subtraction
+    by-subtraction-requires
     same-length
     returns)

@@ -47,18 +47,22 @@ half-at-requires-2 c κs = search needs
 cast-t12 : tie.Need-cast-t12
 cast-t12 c = search needs
 
+none-requires : tie.Need-none-requires
+none-requires c κs = search needs
+
 same-length : tie.Need-same-length
 same-length c = search needs
 
 returns-2 : tie.Need-returns-2
 returns-2 c =
-    let w = c .before in
+    let l = c .before in
+    let w = l .before in
     let f = w .before .before .before in
     let n = f .before .before in
     let e = n .before in
     let m = e .before in
     read-done version stride _ _ (m .before .judge-record .ensures) (m .number .ensures) (e .if1 .left)
-    (n .count-in .ensures .0) (w .half-at .ensures .0) (c .half-at2 .ensures .0) (f .fill .ensures)
+    (n .count-in .ensures .0) (w .half-at .ensures .0) (l .half-at2 .ensures .0) (f .fill .ensures) (c .none .ensures)
 
 pub read-record-spec : {M : Type 1} → statement M
 read-record-spec =
@@ -75,5 +79,6 @@ read-record-spec =
     cast-t5
     half-at-requires-2
     cast-t12
+    none-requires
     same-length
     returns-2)

@@ -43,17 +43,20 @@ put-numbers-requires c κs =
     let m = e .before in
     numbers-may stride _ _ (m .before .judge-list .ensures) (m .number .ensures) (e .if1 .left) (ap length (d .put-head .ensures) ∙ length-over _ _)
 
+none-requires : tie.Need-none-requires
+none-requires c κs = search needs
+
 same-length : tie.Need-same-length
 same-length c = search needs
 
 returns-2 : tie.Need-returns-2
 returns-2 c =
-    let p = c .before .before in
+    let p = c .before .before .before in
     let d = headed p in
     let e = d .before .before in
     let m = e .before in
     write-done version stride _ _ _ _ (m .before .judge-list .ensures) (m .number .ensures) (e .if1 .left)
-    (d .put-head .ensures) (p .put-numbers .ensures)
+    (d .put-head .ensures) (p .put-numbers .ensures) (c .none .ensures)
 
 pub write-record-spec : {M : Type 1} → statement M
 write-record-spec =
@@ -66,5 +69,6 @@ write-record-spec =
     put-head-requires
     mul-put-numbers
     put-numbers-requires
+    none-requires
     same-length
     returns-2)

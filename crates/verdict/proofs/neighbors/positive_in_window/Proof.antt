@@ -1,7 +1,8 @@
 -- `verdict::neighbors::positive_in_window` meets its contract. The invariant counts the rows passed whole. Assumes nothing.
 use Prim.Native.Nat.{_-_}
 use native.Mathlib.Omega.{arith}
-use Rattle.verdict.proofs.Windows.{room-row, part-length, CountTo, count-none-yet, count-row, count-rows}
+use borrow.Author.Needs.{needs}
+use Rattle.verdict.proofs.Windows.{room-row, CountTo, count-none-yet, count-row, count-rows}
 use Rattle.verdict.proofs.neighbors.positive_in_window.Statement.{statement}
 use Rattle.verdict.proofs.neighbors.positive_in_window.Tie as tie
 
@@ -29,21 +30,18 @@ start c = c .before .before
 row-part-requires : tie.Need-row-part-requires Inv-loop μ-loop
 row-part-requires c κs = room-row (start (c .before) .pre) (c .loop-test .taken)
 
-positive-in-requires : tie.Need-positive-in-requires Inv-loop μ-loop
-positive-in-requires c κs =
-    let t = c .before in
-    let o = start (t .before) in
-    omega (arith, part-length (o .args .resp .now) (room-row (o .pre) (t .loop-test .taken)) (c .row-part .ensures))
+count-above-requires : tie.Need-count-above-requires Inv-loop μ-loop
+count-above-requires c κs = search needs
 
 -- a turn: its test, and where it began
-abbrev turn : tie.After-positive-in Inv-loop μ-loop → tie.In-loop Inv-loop μ-loop
+abbrev turn : tie.After-count-above Inv-loop μ-loop → tie.In-loop Inv-loop μ-loop
 turn c = c .before .before
 
 loop-again : tie.Need-loop-again Inv-loop μ-loop
 loop-again c =
     let t = turn c in
     let o = start (t .before) in
-    count-row (o .args .resp .now) (o .pre) (t .before .loop .inv) (t .loop-test .taken) (c .before .row-part .ensures) (c .positive-in .ensures)
+    count-row (o .args .resp .now) (o .pre) (t .before .loop .inv) (t .loop-test .taken) (c .before .row-part .ensures) (c .count-above .ensures)
 
 add-count : tie.Need-add-count Inv-loop μ-loop
 add-count c = omega (arith, loop-again c .few)
@@ -70,7 +68,7 @@ positive-in-window-spec =
     add-ey-2
     loop-holds
     row-part-requires
-    positive-in-requires
+    count-above-requires
     add-count
     add-yy
     loop-less

@@ -1,23 +1,22 @@
--- `verdict::neighbors::positive_in` meets its contract. The invariant counts the entries passed. Assumes nothing.
+-- `crests::crests::above_in` meets its contract. The invariant counts the entries passed. Assumes nothing.
 use mathlib.Core.Path.{_≡_}
 use Prim.Native.Nat.{_-_, _≤_}
 use lib.ListN.{length}
 use mathlib.Core.Logic.{inl, inr}
 use native.Mathlib.Omega.{arith}
-use Rattle.float.specs.Values.{f0}
 use Rattle.grid.specs.Each.{count}
 use Rattle.grid.proofs.Each.{count-none, count-yes, count-no}
 use Rattle.grid.specs.Rect.{range}
 use Rattle.grid.proofs.Rect.{range-none, range-more}
 use Rattle.crests.specs.Crests.{over}
-use Rattle.verdict.proofs.neighbors.positive_in.Statement.{statement}
-use Rattle.verdict.proofs.neighbors.positive_in.Tie as tie
+use Rattle.crests.proofs.crests.above_in.Statement.{statement}
+use Rattle.crests.proofs.crests.above_in.Tie as tie
 
 abbrev Inv-loop : tie.InvT-loop
-Inv-loop part e n₀ i₀ n i = (i ≤ e) × (n ≤ i) × (n ≡ count (over f0 part) (range 0 i))
+Inv-loop part floor e n₀ i₀ n i = (i ≤ e) × (n ≤ i) × (n ≡ count (over floor part) (range 0 i))
 
 abbrev μ-loop : tie.MeasureT-loop
-μ-loop part e n₀ i₀ n i = e - i
+μ-loop part floor e n₀ i₀ n i = e - i
 
 loop-holds : tie.Need-loop-holds Inv-loop μ-loop
 loop-holds c = (omega arith, omega arith, rw range-none (count-none _))
@@ -54,8 +53,8 @@ returns c =
     let e : l .i ≡ length (c .before .before .args .part .now) = omega arith in
     rw (← e) (l .inv .2)
 
-pub positive-in-spec : {M : Type 1} → statement M
-positive-in-spec =
+pub above-in-spec : {M : Type 1} → statement M
+above-in-spec =
     tie.close
     (tie.spec
     Inv-loop
