@@ -31,10 +31,14 @@ ended c = cut (c .before .before .before .before .before .before .before .before
 abbrev lends : tie.After-run-camera-arg7 Inv-loop μ-loop → tie.After-rest Inv-loop μ-loop
 lends c = c .before .before .before .before .before .before .before
 
+-- and from the loop to the start
+abbrev begun : tie.At-loop Inv-loop μ-loop → tie.Start Inv-loop μ-loop
+begun c = c .before .before .before .before .before .before .before .before .before .before .before
+
 -- the share of the turn's camera
 share : (c : tie.After-rest Inv-loop μ-loop) →
     let l = c .before .before in
-    let s = l .before .before .before .before .before .before .before .before .before .before .before in
+    let s = begun l in
     (l .loop .i < 8) × (l .loop .i * s .args .size + s .args .size ≤ length (l .loop .list))
 share c = share-room _ _ _ _ (c .before .before .loop .inv) (c .before .loop-test .taken)
 
@@ -62,7 +66,7 @@ add-e : tie.Need-add-e Inv-loop μ-loop
 add-e c = omega (arith, share c)
 
 mul-run-camera : tie.Need-mul-run-camera Inv-loop μ-loop
-mul-run-camera c = omega (arith, share (lends c))
+mul-run-camera c = omega (arith, share (lends c), begun (lends c .before .before) .good)
 
 sub-run-camera : tie.Need-sub-run-camera Inv-loop μ-loop
 sub-run-camera c = omega (arith, share (lends c))

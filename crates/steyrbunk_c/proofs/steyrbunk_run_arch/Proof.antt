@@ -1,12 +1,12 @@
--- `steyrbunk_c::steyrbunk_arch` meets its contract: what the cameras are told is put into numbers. Assumes nothing.
+-- `steyrbunk_c::steyrbunk_run_arch` meets its contract: what the cameras are told is put into numbers. Assumes nothing.
 use mathlib.Core.Path.{ap, _∙_}
 use borrow.Author.Needs.{needs}
 use Rattle.grid.specs.Each.{each}
 use Rattle.params.specs.Answers.{numberOf}
 use Rattle.arch.specs.declared.ArchOutcome.{ArchOutcome}
 use Rattle.steyrbunk_c.specs.Called.{cameraNumbers}
-use Rattle.steyrbunk_c.proofs.steyrbunk_arch.Statement.{statement}
-use Rattle.steyrbunk_c.proofs.steyrbunk_arch.Tie as tie
+use Rattle.steyrbunk_c.proofs.steyrbunk_run_arch.Statement.{statement}
+use Rattle.steyrbunk_c.proofs.steyrbunk_run_arch.Tie as tie
 
 -- the way back from the end to the call
 abbrev called : tie.After-number → tie.After-run-arch
@@ -52,8 +52,8 @@ returns c =
       (c .before .tell-cameras .ensures ∙ ap (λ (o : ArchOutcome). each cameraNumbers (o .cameras)) (o .0), o .1),
     )
 
-pub steyrbunk-arch-spec : {M : Type 1} → statement M
-steyrbunk-arch-spec =
+pub steyrbunk-run-arch-spec : {M : Type 1} → statement M
+steyrbunk-run-arch-spec =
     tie.close
     (tie.spec
     run-arch-requires

@@ -1,9 +1,8 @@
 -- `steyrbunk_c::tell_cameras` meets its contract: a turn tells one camera. Assumes nothing.
 use mathlib.Core.Path.{_≡_, sym, _∙_}
-use Prim.Native.Nat.{_+_, _-_, _*_, _<_}
+use Prim.Native.Nat.{_-_}
 use native.Mathlib.Omega.{arith}
-use borrow.Author.Needs.{needs}
-use lib.ListN.{length, length-set}
+use lib.ListN.{length}
 use Rattle.steyrbunk_c.proofs.Cameras.{Telling, telling-none, telling-more, telling-all}
 use Rattle.steyrbunk_c.proofs.tell_cameras.Statement.{statement}
 use Rattle.steyrbunk_c.proofs.tell_cameras.Tie as tie
@@ -21,53 +20,17 @@ eight c = c .good .0 .1 .0 .1
 loop-holds : tie.Need-loop-holds Inv-loop μ-loop
 loop-holds c = telling-none _ _ (c .before .pre)
 
-mul-o : tie.Need-mul-o Inv-loop μ-loop
-mul-o c = omega arith
+mul-tell-camera : tie.Need-mul-tell-camera Inv-loop μ-loop
+mul-tell-camera c = omega arith
 
-array-copy-out-o : tie.Need-array-copy-out-o Inv-loop μ-loop
-array-copy-out-o c = omega arith
+array-copy-out-tell-camera : tie.Need-array-copy-out-tell-camera Inv-loop μ-loop
+array-copy-out-tell-camera c = omega arith
 
-mul-at : tie.Need-mul-at Inv-loop μ-loop
-mul-at c = omega arith
+mul-tell-camera-2 : tie.Need-mul-tell-camera-2 Inv-loop μ-loop
+mul-tell-camera-2 c = omega arith
 
-number-requires : tie.Need-number-requires Inv-loop μ-loop
-number-requires c κs = search needs
-
-cast-told : tie.Need-cast-told Inv-loop μ-loop
-cast-told c = omega arith
-
-mul-told : tie.Need-mul-told Inv-loop μ-loop
-mul-told c = omega arith
-
-slice-write-told : tie.Need-slice-write-told Inv-loop μ-loop
-slice-write-told c = search needs
-
-add-told : tie.Need-add-told Inv-loop μ-loop
-add-told c = omega arith
-
-mul-told-2 : tie.Need-mul-told-2 Inv-loop μ-loop
-mul-told-2 c = omega arith
-
-slice-write-told-2 : tie.Need-slice-write-told-2 Inv-loop μ-loop
-slice-write-told-2 c = simp length-set (omega arith)
-
-add-told-2 : tie.Need-add-told-2 Inv-loop μ-loop
-add-told-2 c = omega arith
-
-mul-told-3 : tie.Need-mul-told-3 Inv-loop μ-loop
-mul-told-3 c = omega arith
-
-slice-write-told-3 : tie.Need-slice-write-told-3 Inv-loop μ-loop
-slice-write-told-3 c = simp length-set (omega arith)
-
-add-told-3 : tie.Need-add-told-3 Inv-loop μ-loop
-add-told-3 c = omega arith
-
-mul-told-4 : tie.Need-mul-told-4 Inv-loop μ-loop
-mul-told-4 c = omega arith
-
-slice-write-told-4 : tie.Need-slice-write-told-4 Inv-loop μ-loop
-slice-write-told-4 c = simp length-set (omega arith)
+tell-camera-requires : tie.Need-tell-camera-requires Inv-loop μ-loop
+tell-camera-requires c κs = omega arith
 
 add-i : tie.Need-add-i Inv-loop μ-loop
 add-i c = omega arith
@@ -77,8 +40,9 @@ loop-less c = omega arith
 
 loop-again : tie.Need-loop-again Inv-loop μ-loop
 loop-again c =
-    let t = c .before .before in
-    telling-more _ _ (eight (t .before .before .before)) (t .before .loop .inv) _ (t .loop-test .taken) (c .number .ensures)
+    let k = c .before .before in
+    let t = k .before .before .before in
+    telling-more _ _ (eight (t .before .before .before)) (t .before .loop .inv) _ (t .loop-test .taken) (k .tell-camera .ensures)
 
 same-length : tie.Need-same-length Inv-loop μ-loop
 same-length c = c .before .loop .inv .long ∙ sym (c .before .before .before .pre)
@@ -93,22 +57,10 @@ tell-cameras-spec =
     Inv-loop
     μ-loop
     loop-holds
-    mul-o
-    array-copy-out-o
-    mul-at
-    number-requires
-    cast-told
-    mul-told
-    slice-write-told
-    add-told
-    mul-told-2
-    slice-write-told-2
-    add-told-2
-    mul-told-3
-    slice-write-told-3
-    add-told-3
-    mul-told-4
-    slice-write-told-4
+    mul-tell-camera
+    array-copy-out-tell-camera
+    mul-tell-camera-2
+    tell-camera-requires
     add-i
     loop-less
     loop-again
