@@ -8,16 +8,26 @@ const VARIABLE: &str = "CHESS_CORNERS_RS";
 /// Where the files lie if the variable is not set: beside the repository.
 const DEFAULT: &str = "../../../shared/docs/src";
 const CORE: &str = "crates/chess-corners-core/src";
-/// The file with a module of ours behind its text, for what is private in it; and that module, a path from either package.
-const RESPONSE: &str = "detect/radon/response.rs";
-const OPENED: &str = "../judge/src/opened.rs";
 
 /// The files that are compiled where they lie.
-const FILES: [(&str, &str); 4] = [
+const FILES: [(&str, &str); 3] = [
     ("IMAGEVIEW", "imageview.rs"),
     ("NEIGHBORS", "detect/neighbors.rs"),
     ("PRIMITIVES", "detect/radon/primitives.rs"),
-    ("DETECT", "detect/radon/detect.rs"),
+];
+
+/// The files with a module of ours behind their text, for what is private in them; and that module, a path from either package.
+const OPENED: [(&str, &str, &str); 2] = [
+    (
+        "RESPONSE",
+        "detect/radon/response.rs",
+        "../judge/src/opened.rs",
+    ),
+    (
+        "DETECT",
+        "detect/radon/detect.rs",
+        "../judge/src/opened_detect.rs",
+    ),
 ];
 
 const TREE: &str = r#"
@@ -63,9 +73,9 @@ fn published(core: &Path, name: &str) -> PathBuf {
 }
 
 /// The published text, and behind it the line that names our module.
-fn opened(core: &Path) -> String {
-    let text = fs::read_to_string(published(core, RESPONSE)).expect("a file that is there");
-    let module = package().join(OPENED);
+fn opened(core: &Path, name: &str, module: &str) -> String {
+    let text = fs::read_to_string(published(core, name)).expect("a file that is there");
+    let module = package().join(module);
     println!("cargo:rerun-if-changed={}", module.display());
     format!("{text}\n#[path = {module:?}]\npub(crate) mod opened;\n")
 }
@@ -85,6 +95,12 @@ fn main() {
     let tree = FILES.iter().fold(TREE.to_string(), |tree, (mark, name)| {
         point(tree, mark, &published(&core, name))
     });
-    let response = write("response.rs", opened(&core));
-    write("original.rs", point(tree, "RESPONSE", &response));
+    let tree = OPENED.iter().fold(tree, |tree, (mark, name, module)| {
+        let copy = write(
+            &format!("{}.rs", mark.to_lowercase()),
+            opened(&core, name, module),
+        );
+        point(tree, mark, &copy)
+    });
+    write("original.rs", tree);
 }

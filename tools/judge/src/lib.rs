@@ -17,7 +17,9 @@ pub mod outcome;
 pub mod pictures;
 pub mod printed;
 pub mod random;
+pub mod reasons;
 pub mod upsampled;
+pub mod verdicts;
 
 pub use answers::{accepted, map_refusal, refusal, Room, TOO_SMALL};
 pub use arch::{dues, made_arch};
@@ -26,3 +28,4 @@ pub use maker::{damaged, made, make, Made, Sizes};
 pub use outcome::{mapped, run, sums, Detector, Found, Mapped, Outcome};
 pub use pictures::{Kind, KINDS};
 pub use printed::{list, printed, printed_by};
+pub use verdicts::{candidates, reported, Rules, Verdicts};

@@ -76,7 +76,7 @@ fn part(record: &mut Vec<u8>, bytes: &[u8]) {
 }
 
 /// A frame of the document's settings over other pixels.
-fn like_document(width: u16, height: u16, pixels: Vec<u8>) -> Frame {
+pub(crate) fn like_document(width: u16, height: u16, pixels: Vec<u8>) -> Frame {
     Frame {
         width,
         height,
@@ -92,7 +92,7 @@ fn cut() -> Frame {
     like_document(6, 6, pixels)
 }
 
-fn doubled(frame: Frame) -> Frame {
+pub(crate) fn doubled(frame: Frame) -> Frame {
     Frame {
         upsampling: 2,
         ..frame
@@ -284,7 +284,7 @@ fn small_maps(list: &mut List, seed: u64) {
 fn list_record(frame: &Frame, outcome: &Outcome) -> Vec<u8> {
     let mut record = Vec::new();
     part(&mut record, &frame.bytes());
-    let Outcome { map, corners } = outcome;
+    let Outcome { map, corners, .. } = outcome;
     words(
         &mut record,
         [map.w, map.h, corners.len()].map(|number| number as u32),

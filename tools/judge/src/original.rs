@@ -3,6 +3,7 @@
 use crate::detect::radon::{detect, primitives, response};
 use crate::frame::Frame;
 
+pub use detect::opened::{floor, is_resolved, is_saddle};
 pub use primitives::PeakFitMode;
 pub use response::opened::{blur, map, rays, upsample, view, Map};
 pub use response::{RadonBuffers, RadonDetectorParams, RadonResponseView};

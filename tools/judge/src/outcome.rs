@@ -3,6 +3,7 @@
 use crate::answers::{map_refusal, refusal};
 use crate::frame::Frame;
 use crate::original::{self, Map, RadonBuffers, RadonResponseView};
+use crate::verdicts::{counted, Verdicts};
 
 /// A frame's map and what is behind it, to the bit.
 #[derive(Clone, Debug, PartialEq)]
@@ -19,11 +20,12 @@ pub struct Mapped {
     pub scratch: Option<Vec<f32>>,
 }
 
-/// Everything document 01 names.
+/// Everything the documents name. The verdicts are the judge's own reading, over the original's map: it counts none.
 #[derive(Clone, Debug, PartialEq)]
 pub struct Outcome {
     pub map: Mapped,
     pub corners: Vec<[f32; 3]>,
+    pub verdicts: Verdicts,
 }
 
 /// Map and list of one frame after another, in the same buffers.
@@ -32,10 +34,11 @@ pub struct Detector {
     buffers: RadonBuffers,
 }
 
-/// A frame's map and list; the slices are the detector's own.
+/// The same of the last frame; the slices are the detector's own.
 pub struct Found<'a> {
     pub map: Map<'a>,
     pub corners: Vec<[f32; 3]>,
+    pub verdicts: Verdicts,
 }
 
 /// What the documents refuse never reaches the original: such a frame is a mistake of the caller. A map is refused less than
@@ -56,9 +59,11 @@ impl Detector {
         assert_eq!(refusal(frame, usize::MAX), None, "a refused frame");
         let params = original::params(frame);
         let corners = original::detect_peaks_from_radon(&self.view(frame), &params);
+        let map = original::map(&self.buffers);
         Found {
-            map: original::map(&self.buffers),
+            map,
             corners,
+            verdicts: counted(frame, map.working, map.response),
         }
     }
 
@@ -77,10 +82,11 @@ pub fn mapped(frame: &Frame) -> Mapped {
 /// All that the original makes of an accepted frame, in fresh buffers.
 pub fn run(frame: &Frame) -> Outcome {
     let mut detector = Detector::new();
-    let Found { map, corners } = detector.find(frame);
+    let found = detector.find(frame);
     Outcome {
-        map: kept(frame, map),
-        corners,
+        map: kept(frame, found.map),
+        corners: found.corners,
+        verdicts: found.verdicts,
     }
 }
 

@@ -62,8 +62,8 @@ fn the_fast_path_is_the_whole_one() {
         let found = detector.find(&frame);
         let map = whole.map;
         assert_eq!(
-            (found.map.w, found.map.h, found.corners),
-            (map.w, map.h, whole.corners)
+            (found.map.w, found.map.h, found.corners, found.verdicts),
+            (map.w, map.h, whole.corners, whole.verdicts)
         );
         assert_eq!(
             (found.map.working, found.map.response),

@@ -1,6 +1,6 @@
 //! Prints what the published Rust finds in frame files.
 
-use std::fmt::Write as _;
+use std::fmt::{Display, Write as _};
 use std::io::{self, Read, Write as _};
 use std::{env, fs, process};
 
@@ -11,7 +11,7 @@ judge [--print | --all] [--program] [--archive] [FILE...]
 Reads frame files, or one from standard input, and prints what the published Rust finds.
   --print    the list as document 01 prints it (the default), without the program's
              limits of room: answers 1, 9 and 10 are not given
-  --all      W, H, working image, four tables, response, scratch and list
+  --all      W, H, working image, four tables, response, scratch, the six counts and list
   --program  with the program's limits of bytes, working pixels and corners
   --archive  each file holds frame files end to end
 ";
@@ -57,7 +57,7 @@ fn standard_input() -> Vec<u8> {
     }
 }
 
-fn decimal(name: &str, numbers: &[u32]) -> String {
+fn decimal(name: &str, numbers: &[impl Display]) -> String {
     numbers.iter().fold(name.to_string(), |line, number| {
         line + &format!(" {number}")
     })
@@ -77,7 +77,11 @@ fn hex(name: &str, bytes: &[u8]) -> String {
 }
 
 fn everything(outcome: &Outcome, room: usize) -> String {
-    let Outcome { map, corners } = outcome;
+    let Outcome {
+        map,
+        corners,
+        verdicts,
+    } = outcome;
     let scratch = map.scratch.as_ref();
     let lines = [
         format!("width {}", map.w),
@@ -91,6 +95,7 @@ fn everything(outcome: &Outcome, room: usize) -> String {
         scratch.map_or("scratch untouched".to_string(), |scratch| {
             bits("scratch", scratch)
         }),
+        decimal("verdicts", verdicts),
     ];
     let mut text = lines.join("\n");
     let list = list(map.w, map.h, corners, room);
