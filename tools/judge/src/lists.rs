@@ -8,6 +8,8 @@ use crate::maker::{damaged, made, Made, Sizes};
 use crate::outcome::{mapped, run, Mapped, Outcome};
 use crate::pictures::{Kind, KINDS};
 use crate::printed::printed;
+use crate::reasons::reasons;
+use crate::verdicts::NAMES;
 
 /// The seed of the lists as they stand in the repository.
 pub const SEED: u64 = 1;
@@ -20,6 +22,8 @@ pub type Summary = BTreeMap<(&'static str, String), usize>;
 pub struct List {
     pub records: Vec<Vec<u8>>,
     pub summary: Summary,
+    /// What else its first line says.
+    also: &'static str,
 }
 
 impl List {
@@ -28,7 +32,8 @@ impl List {
         let count = self.records.len();
         let line = format!(
             "{name} list by tools/judge vectors, seed {seed}, {count} frames, \
-             answers of chess-corners-rs at fbc3e85b96\n"
+             answers of chess-corners-rs at fbc3e85b96{}\n",
+            self.also
         );
         let mut file = line.into_bytes();
         self.records.iter().for_each(|record| file.extend(record));
@@ -280,15 +285,20 @@ fn small_maps(list: &mut List, seed: u64) {
     }
 }
 
-/// Width, height and corners of an accepted frame.
+/// Width, height, count, verdicts and corners of an accepted frame.
 fn list_record(frame: &Frame, outcome: &Outcome) -> Vec<u8> {
     let mut record = Vec::new();
     part(&mut record, &frame.bytes());
-    let Outcome { map, corners, .. } = outcome;
+    let Outcome {
+        map,
+        corners,
+        verdicts,
+    } = outcome;
     words(
         &mut record,
         [map.w, map.h, corners.len()].map(|number| number as u32),
     );
+    words(&mut record, verdicts.map(|count| count as u32));
     words(
         &mut record,
         corners.iter().flatten().map(|value| value.to_bits()),
@@ -308,6 +318,11 @@ const LIST_SHARES: [(usize, usize); 8] = [
     (3, 3),
 ];
 
+/// Records at each factor in which a verdict occurs, at least.
+const LIST_VERDICTS: usize = 50;
+/// Working pixels of the frames that are taken for a verdict.
+const LIST_ROOM: usize = 400;
+
 fn place(kind: Kind) -> usize {
     KINDS
         .iter()
@@ -319,13 +334,50 @@ impl List {
     fn take_list(&mut self, kind: &str, frame: &Frame, outcome: &Outcome) {
         self.note_frame(kind, frame);
         self.note("corners", span(outcome.corners.len()));
+        for verdict in occurring(outcome) {
+            self.note(of_factor(frame), numbered(verdict));
+        }
         self.records.push(list_record(frame, outcome));
+    }
+
+    /// Whether a frame has a verdict that is still rare at its factor.
+    fn lacks(&self, frame: &Frame, outcome: &Outcome) -> bool {
+        let lacking = self.lacking(of_factor(frame));
+        occurring(outcome).any(|verdict| lacking.contains(&verdict))
+    }
+
+    /// The verdicts that are still rare at a factor.
+    fn lacking(&self, of: &'static str) -> Vec<usize> {
+        let records = |verdict| self.summary.get(&(of, numbered(verdict)));
+        let rare = |verdict: &usize| records(*verdict).map_or(0, |count| *count) < LIST_VERDICTS;
+        (0..NAMES.len()).filter(rare).collect()
     }
 }
 
+/// The verdicts that some candidate of a frame has.
+fn occurring(outcome: &Outcome) -> impl Iterator<Item = usize> + '_ {
+    (0..NAMES.len()).filter(|verdict| outcome.verdicts[*verdict] > 0)
+}
+
+/// Named so that they sort in the rules' order.
+fn numbered(verdict: usize) -> String {
+    format!("{verdict} {}", NAMES[verdict])
+}
+
+/// The traits that count in how many records each verdict occurs.
+const OF_FACTOR: [&str; 2] = ["verdicts at factor 1", "verdicts at factor 2"];
+
+fn of_factor(frame: &Frame) -> &'static str {
+    OF_FACTOR[frame.factor() - 1]
+}
+
 pub fn list_list(seed: u64) -> List {
-    let mut list = List::default();
-    for frame in named().into_iter().chain(bordered()).filter(accepts) {
+    let mut list = List {
+        also: ", verdicts of the judge's own",
+        ..List::default()
+    };
+    let frames = named().into_iter().chain(bordered()).chain(reasons());
+    for frame in frames.filter(accepts) {
         list.take_list("Named", &frame, &run(&frame));
     }
     let mut left = LIST_SHARES;
@@ -351,7 +403,26 @@ pub fn list_list(seed: u64) -> List {
         *empty -= usize::from(count == 0);
         list.take_list(&format!("{:?}", made.kind), &made.frame, &outcome);
     }
+    rare_verdicts(&mut list, seed ^ 0x7768_793F);
     list
+}
+
+/// Small frames until each verdict occurs often enough at each factor.
+fn rare_verdicts(list: &mut List, seed: u64) {
+    for index in 0.. {
+        if OF_FACTOR.iter().all(|of| list.lacking(of).is_empty()) {
+            break;
+        }
+        let made = made(seed, index, Sizes::within(LIST_ROOM));
+        // Without a window the least count alone decides whether neighbours are too few.
+        if !accepts(&made.frame) || made.frame.suppression == 0 {
+            continue;
+        }
+        let outcome = run(&made.frame);
+        if list.lacks(&made.frame, &outcome) && outcome.corners.len() <= Room::PROGRAM.corners {
+            list.take_list(&format!("{:?}", made.kind), &made.frame, &outcome);
+        }
+    }
 }
 
 /// The longest file in the program list.

@@ -132,18 +132,30 @@ fn the_map_list() {
 #[test]
 fn the_corner_list() {
     let file = made_twice("list", list_list);
+    assert!(file.len() < 700_000);
     let mut reader = after_line(&file);
     let (mut count, mut cornered) = (0, 0);
+    // How many records have each verdict, by their factors.
+    let mut records = [[0; 6]; 2];
     while !reader.0.is_empty() {
-        accepted(reader.part(), Room::PROGRAM).unwrap();
-        reader.bytes(8);
+        let frame = accepted(reader.part(), Room::PROGRAM).unwrap();
+        let (w, h) = (reader.word() as usize, reader.word() as usize);
+        assert_eq!((w, h), frame.working());
         let corners = reader.word() as usize;
         assert!(corners <= 256);
+        let verdicts = [(); 6].map(|()| reader.word() as usize);
+        let twice = 2 * frame.border();
+        assert_eq!(verdicts.iter().sum::<usize>(), (w - twice) * (h - twice));
+        assert_eq!(verdicts[5], corners);
+        let shown = &mut records[frame.factor() - 1];
+        (0..6).for_each(|verdict| shown[verdict] += usize::from(verdicts[verdict] > 0));
         reader.bytes(12 * corners);
         count += 1;
         cornered += usize::from(corners > 0);
     }
     assert!(count >= 290 && cornered > 200, "{count} {cornered}");
+    let few = records.iter().flatten().any(|records| *records < 50);
+    assert!(!few, "{records:?}");
 }
 
 #[test]
