@@ -9,14 +9,31 @@ macro_rules! function {
     };
 }
 
+/// The same function with the six counts told behind the rest, and without them.
+macro_rules! call {
+    ($($read:ty),*; $($buffer:ty),*; $($told:ty),*; $answer:ty) => {
+        Call<
+            function!($($read),*; $($buffer),*; $($told,)* *mut usize; $answer),
+            function!($($read),*; $($buffer),*; $($told),*; $answer),
+        >
+    };
+}
+
+/// A function that tells the six counts since document 02's sixth request, under a name of its own; or, in a library from before
+/// that, the function that it was.
+#[derive(Clone, Copy)]
+pub enum Call<Six, Without> {
+    Six(Six),
+    Without(Without),
+}
+
 pub type Columns = function!(*const u8, usize, usize, usize; u32; ; ());
 pub type Rays = function!(*const u8, usize, usize, usize, usize; u32, u32, u32, u32, f32; ; ());
 pub type Response = function!(*const u8, usize, usize, usize, u32, u32, u32;
     u8, u32, u32, u32, u32, f32, f32; *mut usize, *mut usize; u32);
-pub type Find = function!(*const u8, usize, usize, usize, u32, u32, u32, u32, f32, u32, u32;
+pub type Find = call!(*const u8, usize, usize, usize, u32, u32, u32, u32, f32, u32, u32;
     u8, u32, u32, u32, u32, f32, f32, f32; *mut usize, *mut usize, *mut usize; u32);
-
-pub type Peaks = function!(*const f32, usize, *const u8, usize, usize, usize, u32, u32, u32, u32, f32, u32, u32;
+pub type Peaks = call!(*const f32, usize, *const u8, usize, usize, usize, u32, u32, u32, u32, f32, u32, u32;
     f32; *mut usize; u32);
 pub type Log = function!(f32; ; ; f32);
 
@@ -65,6 +82,15 @@ impl Library {
             let place = unsafe { dlsym(library, name.as_ptr()) };
             (!place.is_null()).then_some(place).ok_or_else(said)
         };
+        // The name with the six counts is looked up first.
+        macro_rules! either {
+            ($six:expr, $without:expr) => {
+                match place($six) {
+                    Ok(six) => Call::Six(transmute::<*mut c_void, _>(six)),
+                    Err(_) => Call::Without(transmute::<*mut c_void, _>(place($without)?)),
+                }
+            };
+        }
         // SAFETY: the functions of these names have these types, in every revision that is timed.
         unsafe {
             use std::mem::transmute;
@@ -72,11 +98,16 @@ impl Library {
                 columns: transmute::<*mut c_void, Columns>(place(c"pass_columns")?),
                 rays: transmute::<*mut c_void, Rays>(place(c"pass_rays")?),
                 response: transmute::<*mut c_void, Response>(place(c"steyrbunk_response")?),
-                peaks: transmute::<*mut c_void, Peaks>(place(c"steyrbunk_peaks")?),
-                find: transmute::<*mut c_void, Find>(place(c"steyrbunk_find")?),
+                peaks: either!(c"steyrbunk_detect_peaks", c"steyrbunk_peaks"),
+                find: either!(c"steyrbunk_corners", c"steyrbunk_find"),
                 log: transmute::<*mut c_void, Log>(place(c"steyrbunk_ln")?),
             })
         }
+    }
+
+    /// Whether its calls tell the six counts.
+    pub fn tells_six(&self) -> bool {
+        matches!(self.find, Call::Six(_))
     }
 
     pub fn ln(&self, x: f32) -> f32 {

@@ -37,7 +37,8 @@ bench times the proved finder against the published Rust, one thread each, and p
                     (small cells), noise or flat
   --largest WIDTH   leaves out frames that are wider
   --arch            times arches of 2, 4 and 8 cameras beside their single calls instead
-  --before, --after times two builds of ours instead, as tools/version makes them
+  --before, --after times two builds of ours instead, as tools/version makes them, those from before the
+                    six counts too
   --parabolic       with these, peaks are fitted by a parabola and not by logarithms
   --scalars         times root and logarithm beside the platform's instead
   --distances       measures instead how far these lie apart, over every f32 of their ranges

@@ -7,7 +7,7 @@ use steyrbunk::{Finder, Image, PeakFit, Settings};
 
 use crate::clock::{timed, NAME};
 use crate::frames::Picture;
-use crate::library::Library;
+use crate::library::{Call, Library};
 use crate::scalars;
 use crate::table::median;
 
@@ -44,23 +44,35 @@ struct Bench<'a> {
     list: Vec<f32>,
 }
 
+/// What a call tells, where it does: corners, width and height; and the six counts, by a library that has them.
+struct Told {
+    numbers: [usize; 3],
+    six: Option<[usize; 6]>,
+}
+
 /// What a call left in every buffer, to the bit, and what it told.
-#[derive(PartialEq)]
 struct Left {
     working: Vec<u8>,
     buffers: Vec<Vec<u32>>,
     list: Vec<u32>,
     told: [usize; 3],
+    six: Option<[usize; 6]>,
 }
 
 impl Left {
-    /// Whether two calls left the same but for the places of their corners.
+    fn same(&self, other: &Left) -> bool {
+        self.list == other.list && self.same_but_places(other)
+    }
+
+    /// Whether two calls left the same but for the places of their corners. The six counts are compared where both told them.
     fn same_but_places(&self, other: &Left) -> bool {
         let strengths = |left: &Left| -> Vec<u32> {
             let corners = left.list.chunks_exact(3);
             corners.map(|corner| corner[2]).collect()
         };
+        let both = self.six.zip(other.six);
         self.told == other.told
+            && both.is_none_or(|(six, others)| six == others)
             && self.working == other.working
             && self.buffers == other.buffers
             && strengths(self) == strengths(other)
@@ -101,6 +113,20 @@ macro_rules! lend {
     };
 }
 
+/// One that tells the six counts too, where the library has them.
+macro_rules! lend_six {
+    ($call:expr, $six:ident; $($read:expr),*; $($slice:expr),*; $($told:expr),*) => {
+        match $call {
+            Call::Six(function) => {
+                // What no count is: the call writes each of them.
+                let six = $six.insert([usize::MAX; 6]).as_mut_ptr();
+                lend!(function; $($read),*; $($slice),*; $($told,)* six)
+            }
+            Call::Without(function) => lend!(function; $($read),*; $($slice),*; $($told),*),
+        }
+    };
+}
+
 impl<'a> Bench<'a> {
     fn new(image: Image<'a>, factor: u32, peak_fit: PeakFit) -> Self {
         let settings = Settings {
@@ -125,12 +151,17 @@ impl<'a> Bench<'a> {
         self.sides.0 * self.sides.1
     }
 
-    /// One call; corners, width and height where they are told.
-    fn call(&mut self, library: &Library, part: Part) -> [usize; 3] {
+    /// Places that are judged: those at least ray + suppression + 1 from every edge.
+    fn candidates(&self) -> usize {
+        let twice = 2 * (self.settings.ray_radius + self.settings.nms_radius + 1) as usize;
+        (self.sides.0 - twice) * (self.sides.1 - twice)
+    }
+
+    fn call(&mut self, library: &Library, part: Part) -> Told {
         let (image, s, (w, h)) = (self.image, &self.settings, self.sides);
         let (pixels, n) = (image.pixels.as_ptr(), image.pixels.len());
         let fit = s.peak_fit.number().into();
-        let (mut count, mut ww, mut wh) = (0, 0, 0);
+        let (mut count, mut ww, mut wh, mut six) = (0, 0, 0, None);
         let Buffers {
             working,
             row_cumsum: row,
@@ -153,18 +184,21 @@ impl<'a> Bench<'a> {
             Part::Map => lend!(library.response;
                 pixels, n, image.width, image.height, s.ray_radius, s.image_upsample, s.response_blur_radius;
                 working, row, col, fall, rise, response, scratch; &mut ww, &mut wh),
-            Part::List => lend!(library.peaks;
+            Part::List => lend_six!(library.peaks, six;
                 response.as_ptr(), response.len(), working.as_ptr(), working.len(), w, h,
                 s.ray_radius, s.image_upsample, s.response_blur_radius,
                 fit, s.threshold_rel, s.nms_radius, s.min_cluster_size;
                 self.list; &mut count),
-            Part::Whole => lend!(library.find;
+            Part::Whole => lend_six!(library.find, six;
                 pixels, n, image.width, image.height, s.ray_radius, s.image_upsample, s.response_blur_radius,
                 fit, s.threshold_rel, s.nms_radius, s.min_cluster_size;
                 working, row, col, fall, rise, response, scratch, self.list; &mut count, &mut ww, &mut wh),
         };
         assert_eq!(number, 0, "an accepted frame");
-        [count, ww, wh]
+        Told {
+            numbers: [count, ww, wh],
+            six,
+        }
     }
 
     /// Other things where a part is to write: a table that is not filled, or filled from what was there, is seen.
@@ -199,7 +233,11 @@ impl<'a> Bench<'a> {
             self.call(library, Part::Map);
         }
         self.spoil(part);
-        let told = self.call(library, part);
+        let Told { numbers, six } = self.call(library, part);
+        if let Some(six) = six {
+            assert_eq!(six.iter().sum::<usize>(), self.candidates(), "{six:?}");
+            assert_eq!(six[5], numbers[0], "those that are kept are found");
+        }
         let bits = |numbers: &[f32]| numbers.iter().map(|x| x.to_bits()).collect();
         let b = self.finder.lend();
         let tables = [
@@ -214,7 +252,8 @@ impl<'a> Bench<'a> {
             working: b.working.to_vec(),
             buffers,
             list: bits(&self.list),
-            told,
+            told: numbers,
+            six,
         }
     }
 
@@ -237,7 +276,7 @@ impl<'a> Bench<'a> {
     ) {
         let left = [before, after].map(|library| self.left(library, part));
         let same = match places {
-            None => left[0] == left[1],
+            None => left[0].same(&left[1]),
             Some(places) => {
                 // The list alone has the same places.
                 if matches!(part, Part::Whole) {
@@ -246,7 +285,7 @@ impl<'a> Bench<'a> {
                 left[0].same_but_places(&left[1])
             }
         };
-        assert!(same, "both builds leave the same");
+        assert!(same, "both builds leave and tell the same");
         let times = LEAST.div_ceil(self.working());
         let (mut old, mut new) = (Vec::new(), Vec::new());
         for repeat in 0..repeats {
@@ -275,6 +314,16 @@ impl<'a> Bench<'a> {
     }
 }
 
+/// Which of the builds tell the six counts.
+fn six_counts(libraries: &[Library; 2]) -> &'static str {
+    match libraries.each_ref().map(|library| library.tells_six()) {
+        [true, true] => "Both tell the six counts, which must be the same too.",
+        [false, true] => "The build after tells the six counts, the one before does not.",
+        [true, false] => "The build before tells the six counts, the one after does not.",
+        [false, false] => "Neither tells the six counts.",
+    }
+}
+
 /// The table of both builds.
 pub fn times(
     libraries: &[Library; 2],
@@ -289,7 +338,7 @@ pub fn times(
     let mut places = differ.then(Places::default);
     println!("Medians of {repeats} turns, {NAME}, one thread; picture: {name}, {peak_fit:?} peaks. Both builds have the");
     println!("same frames and buffers, and before the turns must leave the same in each. The ratio is the median of the");
-    println!("turns' own ratios.");
+    println!("turns' own ratios. {}", six_counts(libraries));
     println!();
     println!("| Frame and factor | Working image | Corners | Part | Before, ns a working pixel | After | After / before |");
     println!("|---|---|---:|---|---:|---:|---:|");
