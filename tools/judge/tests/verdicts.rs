@@ -101,6 +101,24 @@ fn candidates_are_counted() {
     assert_eq!(run(&lower).verdicts, [0, 3, 0, 0, 3, 0]);
 }
 
+/// In a map that is lent, what is no number is not above the floor, nor is anything where the floor is none or is infinite.
+#[test]
+fn values_that_no_map_has() {
+    let verdict = |value: f32, fraction: f32| {
+        let frame = Frame {
+            threshold: fraction.to_bits(),
+            ..document_frame()
+        };
+        let mut map = mapped(&frame);
+        map.response[3 * 7 + 3] = value;
+        NAMES[Rules::new(&frame, &map.working, &map.response).verdict(3, 3)]
+    };
+    assert_eq!(verdict(160_000.0, 0.28), "kept");
+    assert_eq!(verdict(f32::NAN, 0.28), "not above the floor");
+    assert_eq!(verdict(f32::INFINITY, 0.28), "not above the floor");
+    assert_eq!(verdict(f32::INFINITY, 0.0), "not above the floor");
+}
+
 /// The verdict by the original's own functions: every one is asked, and the first that says no counts.
 fn by_the_original(frame: &Frame, map: &Mapped, floor: f32, (x, y): (usize, usize)) -> usize {
     let (sides, window, k) = ((map.w, map.h), frame.suppression.into(), frame.radius());
