@@ -15,10 +15,11 @@ use lib.Dec.{lit<, ltb, leb}
 use lib.Ieee.{Float, nan, lt}
 use Rattle.sizes.proofs.Fitting.{both-true, true-both}
 use Rattle.grid.specs.Each.{count}
-use Rattle.grid.specs.Rect.{line}
-use Rattle.grid.proofs.Rect.{count-line, count-range-ext}
+use Rattle.grid.proofs.Each.{count-made, count-yes, count-no}
+use Rattle.grid.specs.Rect.{range, line}
+use Rattle.grid.proofs.Rect.{range-more, range-made, count-line, count-range-ext, count-range-on, count-range-most, count-range-none}
 use Rattle.crests.specs.Maximum.{entry}
-use Rattle.crests.specs.Crests.{over, longest, aboveCount, crest, worth, four, eight, None, Passed, Next, searchFits, Sought}
+use Rattle.crests.specs.Crests.{over, longest, aboveCount, aboveFrom, crest, worth, four, eight, None, Passed, Went, Next, searchFits, Sought}
 
 nor : (a b : Bool) → (a || b) ≡ false → (a ≡ false) × (b ≡ false)
 nor true b h = absurd (true≢false h)
@@ -105,6 +106,75 @@ no-crests floor s i h t =
     let u = nor (four (over floor s) i) (four (over floor s) (i + 4)) (sym h ∙ t) in
     rw (← no-four floor s i (u .0)) (no-four floor s (i + 4) (u .1))
 
+-- ---- a search for crests that counts what it passes
+
+module _ (floor : Float) (s : List Float) where
+  -- from a to below i, and from there to below e
+  above-on : (a i e : ℕ) {n m : ℕ} → a ≤ i → i ≤ e → n ≡ aboveFrom floor s a i → m ≡ aboveFrom floor s i e → n + m ≡ aboveFrom floor s a e
+  above-on a i e h k u v = (λ j. u j + v j) ∙ count-range-on (over floor s) a i e h k
+
+  pub above-none : (a e : ℕ) → None (over floor s) a e → 0 ≡ aboveFrom floor s a e
+  above-none a e h = count-range-none (over floor s) a e h
+
+  -- of a part of n from i on
+  above-part : (i n : ℕ) {m : ℕ} → i + n ≤ length s → let part = take n (drop i s) in m ≡ count (over floor part) (range 0 (length part))
+      → m ≡ aboveFrom floor s i (i + n)
+  above-part i n l e =
+      let long : length (take n (drop i s)) ≡ n = simp (length-take, length-drop) (omega arith) in
+      let size : i + n - i ≡ n = omega arith in
+      let there = rw long at e in
+      there
+      ∙ count-range-ext _ (λ k. over floor s (i + k)) 0 n (λ k _ b. ap (lt floor) (getD-take n (drop i s) k nan b ∙ getD-drop i s k nan))
+      ∙ sym (ap (count (over floor s)) (range-made i (i + n)) ∙ count-made (λ k. i + k) (over floor s) (range 0 (i + n - i)) ∙ rw size)
+
+  module _ (a e : ℕ) where
+    pub went-none : a ≤ e → Went floor s a e a 0
+    went-none h = record { passed = passed-none (crest floor s) a e h; above = above-none a a (none-here (over floor s) a) }
+
+    module _ {i n : ℕ} (w : Went floor s a e i n) where
+      -- eight with none above
+      pub went-low : {r : Bool} → i + 8 ≤ e → r ≡ eight (over floor s) i → r ≡ false → Went floor s a e (i + 8) n
+      went-low b h t = record {
+        passed = passed-eight (crest floor s) a e (w .passed) b (no-crests floor s i h t) refl;
+        above = sym (add-zero n) ∙ above-on a i (i + 8) (w .passed .least) (omega arith) (w .above)
+            (above-none i (i + 8) (none-eight (over floor s) i (sym h ∙ t)));
+      }
+
+      -- eight with some above and no crest
+      pub went-slope : {r : Bool} {m : ℕ} → i + 8 ≤ e → e < length s → r ≡ eight (crest floor s) i → r ≡ false
+          → let part = take (i + 8 - i) (drop i s) in m ≡ count (over floor part) (range 0 (length part)) → Went floor s a e (i + 8) (n + m)
+      went-slope b l h t c =
+          let size : i + 8 - i ≡ 8 = omega arith in
+          record {
+            passed = passed-eight (crest floor s) a e (w .passed) b h t;
+            above = above-on a i (i + 8) (w .passed .least) (omega arith) (w .above) (above-part i 8 (omega arith) (rw size at c));
+          }
+
+      -- one that is no crest, above or not
+      pub went-above : {r : Bool} → i < e → r ≡ crest floor s i → r ≡ false → over floor s i ≡ true → Went floor s a e (i + 1) (n + 1)
+      went-above b h t u = record {
+        passed = passed-one (crest floor s) a e (w .passed) b h t;
+        above = rw (range-more a i (w .passed .least)) (count-yes (over floor s) (range a i) i (w .above) u);
+      }
+
+      pub went-under : {r : Bool} → i < e → r ≡ crest floor s i → r ≡ false → over floor s i ≡ false → Went floor s a e (i + 1) n
+      went-under b h t u = record {
+        passed = passed-one (crest floor s) a e (w .passed) b h t;
+        above = rw (range-more a i (w .passed .least)) (count-no (over floor s) (range a i) i (w .above) u);
+      }
+
+      -- no more than it passed
+      pub went-few : n ≤ i
+      went-few = omega (arith, w .above, count-range-most (over floor s) a i)
+
+      pub went-found : {r : Bool} → r ≡ crest floor s i → r ≡ true → Next (crest floor s) a e i × (n ≡ aboveFrom floor s a i)
+      went-found h t = (next-found (crest floor s) a e (w .passed) h t, w .above)
+
+      pub went-all : e ≤ i → Next (crest floor s) a e e × (n ≡ aboveFrom floor s a e)
+      went-all b =
+          let q : i ≡ e = omega (arith, w .passed .most) in
+          (next-none (crest floor s) a e (w .passed) b, rw q at (w .above))
+
 -- ---- the next place that is worth a verdict
 
 -- what is first in a part from a on is first from a on
@@ -122,24 +192,34 @@ module _ (r : ℕ) (floor : Float) (s : List Float) (a e : ℕ) where
   crest-is : 0 < r → (k : ℕ) → crest floor s k ≡ worth r floor s k
   crest-is b k = rw (lt-ltb 0 r b)
 
-  pub worth-crest : {i : ℕ} → 0 < r → Next (crest floor s) a e i → Next (worth r floor s) a e i
-  worth-crest b t = record {
-    least = t .least;
-    most = t .most;
-    none = λ k h l. sym (crest-is b k) ∙ t .none k h l;
-    found = λ l. sym (crest-is b _) ∙ t .found l;
-  }
+  pub worth-crest : {i n : ℕ} → 0 < r → Next (crest floor s) a e i × (n ≡ aboveFrom floor s a i)
+      → Next (worth r floor s) a e i × (n ≡ aboveFrom floor s a i)
+  worth-crest b (t, c) = (
+    record {
+      least = t .least;
+      most = t .most;
+      none = λ k h l. sym (crest-is b k) ∙ t .none k h l;
+      found = λ l. sym (crest-is b _) ∙ t .found l;
+    },
+    c,
+  )
 
   -- the part of the row that is searched
   abbrev part : List Float
   part = take (e - a) (drop a s)
 
-  pub worth-above : {j : ℕ} → r ≤ 0 → a ≤ e → e ≤ length s → Next (over floor part) 0 (length part) j → Next (worth r floor s) a e (a + j)
+  pub worth-above : {j : ℕ} → r ≤ 0 → a ≤ e → e ≤ length s → Next (over floor part) 0 (length part) j
+      → Next (worth r floor s) a e (a + j) × (0 ≡ aboveFrom floor s a (a + j))
   worth-above b l m t =
       let n : length part ≡ e - a = simp (length-take, length-drop) (omega arith) in
       let is : (k : ℕ) → k < length part → over floor part k ≡ worth r floor s (a + k) = λ k v.
       rw (le-ltb 0 r b) (ap (lt floor) (getD-take (e - a) (drop a s) k nan (omega arith) ∙ getD-drop a s k nan)) in
-      next-after (worth r floor s) (over floor part) a e l n is t
+      let next = next-after (worth r floor s) (over floor part) a e l n is t in
+      let low : None (over floor s) a _ = λ k h v. sym (under k) ∙ next .none k h v in
+      (next, above-none floor s a _ low)
+    where
+      under : (k : ℕ) → worth r floor s k ≡ over floor s k
+      under k = rw (le-ltb 0 r b)
 
 -- what is not worth a verdict
 pub not-worth : (r : ℕ) (floor : Float) (s : List Float) (k : ℕ) → worth r floor s k ≡ false
@@ -163,13 +243,13 @@ pub bounds-so : (a e n : ℕ) → 1 ≤ a → a ≤ e → e < n → searchFits a
 bounds-so a e n u v w = true-both (le-leb 1 a u) (true-both (le-leb a e v) (lt-ltb e n w))
 
 -- they fit, so what is answered is the next
-pub sought-plain : {r : ℕ} {floor : Float} {s : List Float} {a e i : ℕ} → 1 ≤ a → a ≤ e → e < length s → Sought r floor s a e i
-    → Next (worth r floor s) a e i
+pub sought-plain : {r : ℕ} {floor : Float} {s : List Float} {a e i n : ℕ} → 1 ≤ a → a ≤ e → e < length s → Sought r floor s a e i n
+    → Next (worth r floor s) a e i × (n ≡ aboveFrom floor s a i)
 sought-plain {s = s} {a = a} {e = e} u v w t = t .fitting (bounds-so a e (length s) u v w)
 
 module _ {r : ℕ} {floor : Float} {s : List Float} {a e : ℕ} {b : Bool} (is : b ≡ searchFits a e (length s)) where
-  pub sought-next : {i : ℕ} → b ≡ true → Next (worth r floor s) a e i → Sought r floor s a e i
+  pub sought-next : {i n : ℕ} → b ≡ true → Next (worth r floor s) a e i × (n ≡ aboveFrom floor s a i) → Sought r floor s a e i n
   sought-next h t = record { fitting = λ _. t; none = λ u. absurd (true≢false (sym h ∙ is ∙ u)) }
 
-  pub sought-none : b ≡ false → Sought r floor s a e e
-  sought-none h = record { fitting = λ u. absurd (true≢false (sym u ∙ sym is ∙ h)); none = λ _. refl }
+  pub sought-none : b ≡ false → Sought r floor s a e e 0
+  sought-none h = record { fitting = λ u. absurd (true≢false (sym u ∙ sym is ∙ h)); none = λ _. (refl, refl) }

@@ -21,6 +21,10 @@ longest = 4294967295
 unfoldable pub aboveCount : Float → List Float → ℕ
 aboveCount floor s = cond (leb (length s) longest) (count (over floor s) (range 0 (length s))) 0
 
+-- how many are from a to below i
+abbrev pub aboveFrom : Float → List Float → ℕ → ℕ → ℕ
+aboveFrom floor s a i = count (over floor s) (range a i)
+
 -- and no less than its two neighbours
 abbrev pub crest : Float → List Float → ℕ → Bool
 crest floor s k = over floor s k && (not (lt (entry s k) (entry s (k - 1))) && not (lt (entry s k) (entry s (k + 1))))
@@ -42,6 +46,11 @@ pub record Passed (p : ℕ → Bool) (a e i : ℕ) : Type 0 where
   pub most : i ≤ e
   pub none : None p a i
 
+-- a search for crests has passed what is before i, n of it above the floor
+pub record Went (floor : Float) (s : List Float) (a e i n : ℕ) : Type 0 where
+  pub passed : Passed (crest floor s) a e i
+  pub above : n ≡ aboveFrom floor s a i
+
 -- r is the first from a on at which p holds, or e
 pub record Next (p : ℕ → Bool) (a e r : ℕ) : Type 0 where
   pub least : a ≤ r
@@ -59,7 +68,7 @@ worth r floor s k = cond (ltb 0 r) (crest floor s k) (over floor s k)
 abbrev pub searchFits : ℕ → ℕ → ℕ → Bool
 searchFits a e n = leb 1 a && (leb a e && ltb e n)
 
--- i is the first such place from a on, or e; and e where they have not
-pub record Sought (r : ℕ) (floor : Float) (s : List Float) (a e i : ℕ) : Type 0 where
-  pub fitting : searchFits a e (length s) ≡ true → Next (worth r floor s) a e i
-  pub none : searchFits a e (length s) ≡ false → i ≡ e
+-- i is the first such place from a on, or e, and n of those before it are above the floor; e and 0 where they have not
+pub record Sought (r : ℕ) (floor : Float) (s : List Float) (a e i n : ℕ) : Type 0 where
+  pub fitting : searchFits a e (length s) ≡ true → Next (worth r floor s) a e i × (n ≡ aboveFrom floor s a i)
+  pub none : searchFits a e (length s) ≡ false → (i ≡ e) × (n ≡ 0)

@@ -4,7 +4,8 @@ ghost use Prim.Native.Nat.{_+_, _≤_, _<_};
 ghost use lib.ListN.{length};
 ghost use Rattle.grid.specs.Each.{count};
 ghost use Rattle.grid.specs.Rect.{range};
-ghost use Rattle.crests.specs.Crests.{over, longest, aboveCount, crest, worth, four, eight, Passed, Next, searchFits, Sought};
+ghost use Rattle.crests.specs.Crests.{over, longest, aboveCount, aboveFrom, crest, worth, four, eight, Passed, Went, Next};
+ghost use Rattle.crests.specs.Crests.{searchFits, Sought};
 
 const LONGEST: usize = 4294967295;
 
@@ -108,56 +109,65 @@ fn eight_crests(s: &[f32], i: usize, floor: f32) -> bool
     four_crests(s, i, floor) | four_crests(s, i + 4, floor)
 }
 
-// The same, asked in two steps: mostly none of the eight is above the floor, and no neighbour need be read.
-fn any_crest(s: &[f32], i: usize, floor: f32) -> bool
-    requires { ⌜ (1 ≤ i) × (i + 8 < length (now s)) ⌝ }
-    ensures { λ r. ⌜ r ≡ eight (crest floor (now (s .entry))) i ⌝ }
-{
-    if eight_above(s, i, floor) {
-        return eight_crests(s, i, floor);
-    }
-    false
+// Where a search along a row stands, and how many of the places that it passed are above the floor.
+pub struct Stretch {
+    pub end: usize,
+    pub above: usize,
 }
 
-// How far eights without a crest go, from `from` on and up to `to`.
-fn pass_flat_eights(s: &[f32], from: usize, to: usize, floor: f32) -> usize
+// How far eights without a crest go, from `from` on and up to `to`. Mostly none of the eight is above the floor: no neighbour need be read, and
+// there is none to count.
+fn pass_flat_eights(s: &[f32], from: usize, to: usize, floor: f32) -> Stretch
     requires { ⌜ (1 ≤ from) × (from ≤ to) × (to < length (now s)) ⌝ }
-    ensures { λ i. ⌜ Passed (crest floor (now (s .entry))) from to i ⌝ }
+    ensures { λ r. ⌜ Went floor (now (s .entry)) from to (r .end) (r .above) ⌝ }
 {
     let mut i = from;
+    let mut above: usize = 0;
     while to - i >= 8 {
-        if any_crest(s, i, floor) {
-            return i;
+        if eight_above(s, i, floor) {
+            if eight_crests(s, i, floor) {
+                return Stretch { end: i, above };
+            }
+            above += above_in(&s[i..i + 8], floor) as usize;
         }
         i += 8;
     }
-    i
+    Stretch { end: i, above }
 }
 
 // The first crest from `from` on and before `to`; `to` where there is none.
-fn next_crest(s: &[f32], from: usize, to: usize, floor: f32) -> usize
+fn next_crest(s: &[f32], from: usize, to: usize, floor: f32) -> Stretch
     requires { ⌜ (1 ≤ from) × (from ≤ to) × (to < length (now s)) ⌝ }
-    ensures { λ r. ⌜ Next (crest floor (now (s .entry))) from to r ⌝ }
+    ensures { λ r. ⌜ Next (crest floor (now (s .entry))) from to (r .end) × (r .above ≡ aboveFrom floor (now (s .entry)) from (r .end)) ⌝ }
 {
-    let mut i = pass_flat_eights(s, from, to, floor);
+    let eights = pass_flat_eights(s, from, to, floor);
+    let mut i = eights.end;
+    let mut above = eights.above;
     while i < to {
         if is_crest(s, i, floor) {
-            return i;
+            return Stretch { end: i, above };
+        }
+        if s[i] > floor {
+            above += 1;
         }
         i += 1;
     }
-    to
+    Stretch { end: to, above }
 }
 
 // The same for what is worth a verdict: where the window of radius r is a single pixel, no neighbour is asked.
-fn search(s: &[f32], from: usize, to: usize, floor: f32, r: usize) -> usize
+fn search(s: &[f32], from: usize, to: usize, floor: f32, r: usize) -> Stretch
     requires { ⌜ (1 ≤ from) × (from ≤ to) × (to < length (now s)) ⌝ }
-    ensures { λ i. ⌜ Next (worth r floor (now (s .entry))) from to i ⌝ }
+    ensures { λ t. ⌜ Next (worth r floor (now (s .entry))) from to (t .end) × (t .above ≡ aboveFrom floor (now (s .entry)) from (t .end)) ⌝ }
 {
     if 0 < r {
         return next_crest(s, from, to, floor);
     }
-    from + first_above(&s[from..to], floor)
+    let first = first_above(&s[from..to], floor);
+    Stretch {
+        end: from + first,
+        above: 0,
+    }
 }
 
 fn search_fits(from: usize, to: usize, n: usize) -> bool
@@ -168,11 +178,11 @@ fn search_fits(from: usize, to: usize, n: usize) -> bool
 
 // The next place of a row, from `from` on and before `to`, that is worth a verdict: above the floor and, where the window of radius r has
 // them, no less than its two neighbours. `to` where there is none, or where a place between the two has not both neighbours.
-pub fn next_candidate(s: &[f32], from: usize, to: usize, floor: f32, r: usize) -> usize
-    ensures { λ i. ⌜ Sought r floor (now (s .entry)) from to i ⌝ }
+pub fn next_candidate(s: &[f32], from: usize, to: usize, floor: f32, r: usize) -> Stretch
+    ensures { λ t. ⌜ Sought r floor (now (s .entry)) from to (t .end) (t .above) ⌝ }
 {
     if search_fits(from, to, s.len()) {
         return search(s, from, to, floor, r);
     }
-    to
+    Stretch { end: to, above: 0 }
 }

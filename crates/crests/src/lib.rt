@@ -2,6 +2,7 @@
 mod crests;
 mod maximum;
 
+pub use crests::Stretch;
 pub use crests::count_above;
 pub use crests::first_above;
 pub use crests::next_candidate;

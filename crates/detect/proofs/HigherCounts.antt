@@ -24,7 +24,7 @@ use Rattle.verdict.specs.Window.{at, beaten, positives}
 use Rattle.verdict.specs.Verdict.{firstFailing, isSaddle, sameVerdict, verdict}
 use Rattle.detect.specs.Corners.{candidates, floorOf, having, verdictsOf}
 use Rattle.detect.proofs.Tally.{six-are-all}
-use Rattle.detect.proofs.Rows.{not-above-is}
+use Rattle.detect.proofs.Scanning.{not-above-is}
 use Rattle.detect.proofs.HigherSettings.{raised, higher-floor, higher-count}
 
 -- ---- together they are all candidates

@@ -2,14 +2,14 @@
 use mathlib.Core.Path.{_≡_, refl, sym, ap, _∙_}
 use mathlib.Core.Logic.{_⊎_, inl, inr}
 use mathlib.Core.Bool.{Bool, true, false, not, _&&_, true≢false}
-use Prim.Native.Nat.{ℕ, _+_, _-_, _*_, _/_, _≤_, _<_, _^_, min}
+use Prim.Native.Nat.{ℕ, zero, suc, _+_, _-_, _*_, _/_, _≤_, _<_, _^_, min}
 use native.Mathlib.Omega.{arith}
 use mathlib.Core.List.{List, [], _∷_}
-use borrow.Author.Tests.{ltb-true, ltb-false}
+use borrow.Author.Tests.{ltb-true, ltb-false, ne-eqb}
 use native.Mathlib.Nat.{div-add-mod'}
 use lib.ListN.{length, getD, take, drop, length-take, length-drop}
 use lib.Seq.{sets, length-take-le, getD-take, getD-drop}
-use lib.Dec.{T, ltb, leb, le→leb}
+use lib.Dec.{T, ltb, leb, eqb, le→leb}
 use lib.IntN.{pos}
 use lib.Ieee.{Float, nan, binary32, lt, mul, inFloat}
 use Rattle.float.specs.Values.{f0}
@@ -18,6 +18,7 @@ use Rattle.grid.specs.Plane.{plane}
 use Rattle.grid.specs.Each.{count}
 use Rattle.grid.proofs.Each.{count-most}
 use Rattle.grid.specs.Rect.{Place, place, line}
+use Rattle.grid.proofs.Rect.{before-on, keep-line-ext, count-columns, count-range-ext, count-range-most, count-range-none}
 use Rattle.grid.proofs.Rect.{any-in, length-line, down-more, Across, across-none, across-more, across-skip}
 use Rattle.grid.specs.Ways.{pixel, value}
 use Rattle.grid.specs.Over.{Onward}
@@ -26,24 +27,27 @@ use Rattle.sizes.proofs.Fitting.{Square, both-true}
 use Rattle.params.specs.declared.settings.RadonDetectorParams.{RadonDetectorParams}
 use Rattle.params.specs.Settings.{rayOf}
 use Rattle.saddle.specs.declared.SaddleTest.{SaddleTest}
+use Rattle.saddle.specs.declared.Saddle.{Saddle}
+use Rattle.saddle.specs.declared.Saddle.the-variants.{Yes, Flat, Curved}
 use Rattle.verdict.specs.declared.Verdict.{Verdict}
+use Rattle.verdict.specs.declared.Verdict.the-variants.{NotAbove}
 use Rattle.verdict.specs.declared.Scan.{Scan}
 use Rattle.saddle.specs.Saddle.{saddleNumbers}
 use Rattle.saddle.specs.Steps.{Around}
 use Rattle.saddle.proofs.Fitting.{numbers-plain}
 use Rattle.crests.specs.Maximum.{entry, greater, greatestOf, maximum}
 use Rattle.verdict.specs.Window.{at, beaten, positives}
-use Rattle.crests.specs.Crests.{over, aboveCount, crest, Sought}
-use Rattle.crests.proofs.Passing.{part-above, sought-plain, not-worth}
+use Rattle.crests.specs.Crests.{over, aboveFrom, crest, Sought}
+use Rattle.crests.proofs.Passing.{sought-plain, not-worth}
 use Rattle.detect.specs.Corners.{floorOf, stride, numbers}
-use Rattle.verdict.specs.Verdict.{firstFailing, isSaddle, isKept, rank, verdict}
+use Rattle.verdict.specs.Verdict.{firstFailing, isSaddle, isKept, rank, sameVerdict, verdict}
 use Rattle.verdict.specs.Judged.{judgedIn}
 use Rattle.verdict.specs.Room.{Cross}
-use Rattle.detect.specs.Scan.{scanOf, floorIn, verdictIn, keptIn, aboveIn, numbersIn, fittedAt, borderIn, rowsAbove}
-use Rattle.detect.specs.Scan.{Tally, more, keptOf, Tallied, Asked, Judging, Candidate, Finding, NextInRow, AboveInRow, Entered, RowFound}
-use Rattle.detect.proofs.Tally.{early-dropped, rank-most, wider, tally-more, kept-more, kept-same, counts-more, counts-skip}
+use Rattle.detect.specs.Scan.{scanOf, floorIn, verdictIn, keptIn, ranked, aboveIn, numbersIn, fittedAt, borderIn, rowsAbove}
+use Rattle.detect.specs.Scan.{Tally, plus, keptOf, Tallied, Asked, Judging, Candidate, Finding, NextInRow, Entered, RowFound}
+use Rattle.detect.proofs.Tally.{early-dropped, wider, tally-plus, kept-more, kept-same, kept-passed, counts-more, counts-passed}
 use Rattle.verdict.proofs.Windows.{cross}
-use Rattle.verdict.proofs.Rules.{room, judged-plain}
+use Rattle.verdict.proofs.Rules.{room, judged-plain, rank-most}
 
 -- ---- a candidate lies far enough inside
 
@@ -119,16 +123,16 @@ module _ (s : Scan) (resp : List Float) (image : List ℕ) (x y : ℕ) (mid : Li
   said : {b : Bool} → kept ≡ b → keptIn s resp image (place x y) ≡ b
   said e = ap isKept (sym is) ∙ sym keeps ∙ e
 
-  tallied : more t r ≡ more t (rank (verdictIn s resp image (place x y)))
-  tallied = ap (more t) (ranks ∙ ap rank is)
+  tallied : plus t r 1 ≡ plus t (rank (verdictIn s resp image (place x y))) 1
+  tallied = ap (λ (k : ℕ). plus t k 1) (ranks ∙ ap rank is)
 
-  no : kept ≡ false → Entered s resp image x y mid t mid (more t r)
+  no : kept ≡ false → Entered s resp image x y mid t mid (plus t r 1)
   no e = record {
     onward = λ l. rw (tallied, kept-same t (verdictIn s resp image (place x y)) long (said e)) (onward-no _ _ _ _ _ _ _ _ (onward-none _ _ _ _ _ _) (said e));
     tally = tallied;
   }
 
-  full : kept ≡ true → length mid / stride ≤ keptOf t → Entered s resp image x y mid t mid (more t r)
+  full : kept ≡ true → length mid / stride ≤ keptOf t → Entered s resp image x y mid t mid (plus t r 1)
   full e b = record {
     onward = λ l. rw (tallied, kept-more t (verdictIn s resp image (place x y)) long (said e)) (onward-full _ _ _ _ _ _ _ _ (onward-none _ _ _ _ _ _) (said e) b);
     tally = tallied;
@@ -136,16 +140,16 @@ module _ (s : Scan) (resp : List Float) (image : List ℕ) (x y : ℕ) (mid : Li
 
   -- not kept, or no room
   pub entered-not : {new : List Float} {n room : ℕ} → n ≡ keptOf t → room ≡ length mid / stride → (kept && ltb n room) ≡ false → new ≡ mid
-      → Entered s resp image x y mid t new (more t r)
+      → Entered s resp image x y mid t new (plus t r 1)
   entered-not {n = n} {room = room} q w e same = rw same (go kept refl)
     where
-      go : (k : Bool) → kept ≡ k → Entered s resp image x y mid t mid (more t r)
+      go : (k : Bool) → kept ≡ k → Entered s resp image x y mid t mid (plus t r 1)
       go false u = no u
       go true u = full u (rw (q, w) at (ltb-false n room (rw u at e)))
 
   -- kept, and stored
   pub entered-put : {new : List Float} {n room : ℕ} → n ≡ keptOf t → room ≡ length mid / stride → (kept && ltb n room) ≡ true
-      → new ≡ sets mid (stride * n) (numbersIn s resp (place x y)) → Entered s resp image x y mid t new (more t r)
+      → new ≡ sets mid (stride * n) (numbersIn s resp (place x y)) → Entered s resp image x y mid t new (plus t r 1)
   entered-put {n = n} {room = room} q w e put =
       let both = both-true kept (ltb n room) e in
       let b = rw (q, w) at (ltb-true n room (both .1)) in
@@ -170,6 +174,28 @@ beaten-out s floor f g p e = rw e (go (lt floor (at f p)))
     go : (a : Bool) → rank (firstFailing a false (leb (s .«min_cluster_size») (positives f (s .«nms_radius») p)) (isSaddle s g p)) ≤ 1
     go true = omega arith
     go false = omega arith
+
+-- "not above" is the first rule's no
+first-fails : (a m e : Bool) (d : Saddle) → sameVerdict (firstFailing a m e d) NotAbove ≡ not a
+first-fails false m e d = refl
+first-fails true false e d = refl
+first-fails true true false d = refl
+first-fails true true true Yes = refl
+first-fails true true true Flat = refl
+first-fails true true true Curved = refl
+
+pub not-above-is : (s : RadonDetectorParams) (floor : Float) (f : ℕ → ℕ → Float) (g : ℕ → ℕ → ℕ) (p : Place)
+    → sameVerdict (verdict s floor f g p) NotAbove ≡ not (lt floor (at f p))
+unfolding verdict
+not-above-is s floor f g p = first-fails (lt floor (at f p)) _ _ _
+
+-- so who passes at most one test passes one just where it is above
+one-above : (r : ℕ) (a : Bool) → r ≤ 1 → eqb r 0 ≡ not a → eqb r 1 ≡ a
+one-above zero false l e = refl
+one-above zero true l e = absurd (true≢false e)
+one-above (suc zero) true l e = refl
+one-above (suc zero) false l e = absurd (true≢false (sym e))
+one-above (suc (suc r)) a l e = absurd (omega arith)
 
 -- three tests of which one fails
 fails : (a l r : Bool) → (a && (not l && not r)) ≡ false → (a ≡ false) ⊎ ((l ≡ true) ⊎ (r ≡ true))
@@ -219,39 +245,50 @@ module _ (s : Scan) (resp : List Float) (y : ℕ) (fits : y * s .w + s .w ≤ le
           low-out (s .params) (s .floor) (value resp (s .w)) (pixel image (s .w)) (place k y)
           (rw (row-value resp (s .w) y fits k (omega arith)) at t)
 
-  pub next-is : {a e i : ℕ} → 1 ≤ a → a ≤ e → e < s .w → Sought (s .params .«nms_radius») (s .floor) row a e i → NextInRow s resp y a e i
-  next-is b h l t =
-      let n = sought-plain b h (omega (arith, row-length resp (s .w) y fits)) t in
+  -- how many it has above the floor from a to below i
+  above-in : (a i : ℕ) → i ≤ s .w → aboveFrom (s .floor) row a i ≡ count (aboveIn s resp) (line a i y)
+  above-in a i l =
+      count-range-ext _ _ a i (λ k _ b. ap (lt (s .floor)) (row-value resp (s .w) y fits k (omega arith))) ∙ sym (count-columns (aboveIn s resp) a i y)
+
+  pub next-is : {a e i n : ℕ} {t u : List ℕ} → 1 ≤ a → a ≤ e → e < s .w → Sought (s .params .«nms_radius») (s .floor) row a e i n
+      → u ≡ plus t 1 n → NextInRow s resp y a e i t u
+  next-is {a} {i = i} {t = t} b h l q e =
+      let found = sought-plain b h (omega (arith, row-length resp (s .w) y fits)) q in
+      let n = found .0 in
       record {
         least = n .least;
         most = n .most;
         none = λ image k u v. passed-out image k (omega arith) (omega arith) (not-worth (s .params .«nms_radius») (s .floor) row k (n .none k u v));
+        tally = e ∙ ap (plus t 1) (found .1 ∙ above-in a i (omega (arith, n .most)));
       }
+
+  -- no more than the row has
+  pub next-few : {a e i n : ℕ} → 1 ≤ a → a ≤ e → e < s .w → Sought (s .params .«nms_radius») (s .floor) row a e i n → n ≤ s .w
+  next-few {a} {i = i} b h l q =
+      let found = sought-plain b h (omega (arith, row-length resp (s .w) y fits)) q in
+      omega (arith, found .1, found .0 .most, count-range-most (over (s .floor) row) a i)
 
 -- two stretches, one after the other
 onward-on : {A B : Type 0} {k : ℕ} {f : A → List B} {p : A → Bool} {mid out new : List B} {m n r : ℕ} {l₀ l l′ : List A}
     → Onward k f p mid m l₀ out n l → Onward k f p out n l new r l′ → Onward k f p mid m l₀ new r l′
 onward-on a b = record { on = λ old h. b .on old (a .on old h); same = b .same ∙ a .same }
 
--- ---- how many of a row are above the floor
+-- ---- a stretch of row y that is passed over: what it adds to the tally
 
-pub above-is : (s : Scan) (resp : List Float) (y : ℕ) {a e : ℕ} {part : List Float} {n : ℕ} → 2 * borderIn s < s .w → s .w ≤ 8192
-    → y * s .w + s .w ≤ length resp → a ≡ y * s .w + borderIn s → e ≡ a + (s .w - 2 * borderIn s) → part ≡ take (e - a) (drop a resp)
-    → n ≡ aboveCount (s .floor) part → AboveInRow s resp y n
-above-is s resp y {a} {e} {part} {n} clear wide fits u v is h =
-    let b = borderIn s in
-    let ex = s .w - b in
-    let size : ex - b ≡ s .w - 2 * b = omega arith in
-    let taken : e - a ≡ s .w - 2 * b = omega arith in
-    let most : s .w - 2 * b ≤ length resp - a = omega arith in
-    let long : length part ≡ ex - b =
-    ap length is ∙ length-take-le (e - a) (drop a resp) (rw (taken, length-drop) most) ∙ taken ∙ sym size in
-    let at : (k : ℕ) → k < ex - b → entry part k ≡ value resp (s .w) (b + k) y = λ k l.
-    let i : a + k ≡ y * s .w + (b + k) = omega arith in
-    rw is (getD-take (e - a) (drop a resp) k nan (rw (taken, ← size) l) ∙ getD-drop a resp k nan ∙ ap (λ (i : ℕ). getD resp i nan) i) in
-    let c = part-above (s .floor) (value resp (s .w)) part b ex y long (omega arith) at h in
-    let few : count (aboveIn s resp) (line b ex y) ≤ s .w = omega (arith, count-most (aboveIn s resp) (line b ex y), length-line b ex y) in
-    record { count = c; few = omega (arith, c) }
+module _ (s : Scan) (resp : List Float) (image : List ℕ) (x i y : ℕ)
+    (early : (k : ℕ) → x ≤ k → k < i → rank (verdictIn s resp image (place k y)) ≤ 1) where
+  -- those above the floor have passed one test
+  passed-one-test : count (aboveIn s resp) (line x i y) ≡ count (ranked s resp image 1) (line x i y)
+  unfolding count
+  passed-one-test =
+      ap length (keep-line-ext (aboveIn s resp) (ranked s resp image 1) x i y (λ k a b. sym (one-above _ _ (early k a b)
+      (not-above-is (s .params) (s .floor) (value resp (s .w)) (pixel image (s .w)) (place k y)))))
+
+  -- and none has passed more
+  passed-no-more : (j : ℕ) → 2 ≤ j → count (ranked s resp image j) (line x i y) ≡ 0
+  passed-no-more j l =
+      count-columns (ranked s resp image j) x i y
+      ∙ sym (count-range-none _ x i (λ k a b. ne-eqb _ j (λ e. absurd (omega (arith, early k a b)))))
 
 -- ---- the scan at x of row y: `mid` and t are the list and the tally with which the row began
 
@@ -268,36 +305,63 @@ pub record Scanned (s : Scan) (resp : List Float) (image : List ℕ) (y : ℕ) (
 pub nearer : (e x i : ℕ) → x < e → x + 1 ≤ i → e - i < e - x
 nearer e x i a b = omega arith
 
-module _ {s : Scan} {resp : List Float} {image : List ℕ} {y : ℕ} {mid : List Float} {t : List ℕ} (f : Finding s y t (length resp) (length image))
+module _ {s : Scan} {resp : List Float} {image : List ℕ} {y : ℕ} {t₀ : List ℕ} (f : Finding s y t₀ (length resp) (length image))
     {b : ℕ} (border : b ≡ borderIn s) where
-  pub scan-none : Scanned s resp image y mid t mid t b
+  pub scan-none : {mid : List Float} → Scanned s resp image y mid t₀ mid t₀ b
   scan-none =
       let inner = f .judging .asked .wider in
       rw border (record {
         across = across-none _ _ _ _ _ y (omega arith) (f .above) (omega arith) (onward-none _ _ _ _ _ _, record { on = λ k _ _ e. e });
-        tally = wider t (f .tally) (omega arith);
+        tally = wider t₀ (f .tally) (omega arith);
       })
 
-  module _ {out : List Float} {u : List ℕ} {x : ℕ} (c : Scanned s resp image y mid t out u x) where
+  module _ {mid : List Float} {t : List ℕ} {out : List Float} {u : List ℕ} {x : ℕ} (c : Scanned s resp image y mid t out u x) where
     -- the search goes on to i
-    pub scan-on : {i : ℕ} → NextInRow s resp y x (s .w - b) i → Scanned s resp image y mid t out u i
-    scan-on {i} n =
+    pub scan-on : {i : ℕ} {v : List ℕ} → NextInRow s resp y x (s .w - b) i u v → Scanned s resp image y mid t out v i
+    scan-on {i} {v} n =
         let o : x + (i - x) ≡ i = omega arith in
-        let passed : (k : ℕ) → x ≤ k → k < x + (i - x) → rank (verdictIn s resp image (place k y)) ≤ 1 = λ k a e. n .none image k a (omega arith) in
+        let B = borderIn s in
+        let m = count (aboveIn s resp) (line x i y) in
+        let few : m ≤ i - x = omega (arith, count-most (aboveIn s resp) (line x i y), length-line x i y) in
+        let early : (k : ℕ) → x ≤ k → k < i → rank (verdictIn s resp image (place k y)) ≤ 1 = n .none image in
+        let listed : Across (Onward stride (numbersIn s resp) (keptIn s resp image) mid (keptOf t) (rowsAbove s y) out (keptOf u)) B _ B _ y x = record {
+          least = c .across .least;
+          most = c .across .most;
+          low = c .across .low;
+          high = c .across .high;
+          holds = c .across .holds .0;
+        } in
+        let there = rw o at (across-skip _ _ _ _ _ (i - x) listed (omega arith)
+            (λ k a e p. onward-no _ _ _ _ _ _ _ _ p (early-dropped (verdictIn s resp image (place k y)) (early k a (omega arith))))) in
         record {
-          across = rw o at (across-skip _ _ _ _ _ (i - x) (c .across) (omega arith) (λ k a e p. (
-            onward-no _ _ _ _ _ _ _ _ (p .0) (early-dropped (verdictIn s resp image (place k y)) (passed k a e)),
-            record { on = λ j g m h. counts-skip (verdictIn s resp image) j u _ (place k y) g (passed k a e) (p .1 .on j g m h) },
-          )));
-          tally = wider u (c .tally) (omega (arith, n .least));
+          across = record {
+            least = there .least;
+            most = there .most;
+            low = there .low;
+            high = there .high;
+            holds = rw (n .tally, kept-passed u m (c .tally .long)) (
+              there .holds,
+              record {
+                on = λ j g l h. rw (before-on B (s .w - B) B x i y (c .across .least) (n .least))
+                    (counts-passed (verdictIn s resp image) j u _ (line x i y) (c .tally .long) g (passed-one-test s resp image x i y early)
+                    (passed-no-more s resp image x i y early j) (c .across .holds .1 .on j g l h));
+              },
+            );
+          };
+          tally = rw (n .tally) (wider _ (tally-plus u 1 m (omega arith) (c .tally)) (omega arith));
         }
 
+    -- the tally is small enough for the machine
+    pub small : Tally u (8192 * 8192)
+    small =
+        let a = f .judging .asked in
+        wider u (c .tally) (omega (arith, a .wide, a .high, f .below, c .across .most))
+
     pub candidate : x < s .w - b → Candidate s x y (length resp) (length image) × Tally u (8192 * 8192)
-    candidate l =
-        let a = f .judging .asked in (
-          record { judging = f .judging; left = c .across .least; right = omega arith; above = f .above; below = f .below; row = f .row },
-          wider u (c .tally) (omega (arith, a .wide, a .high, f .below)),
-        )
+    candidate l = (
+      record { judging = f .judging; left = c .across .least; right = omega arith; above = f .above; below = f .below; row = f .row },
+      small,
+    )
 
     -- it is judged
     pub scan-turn : {new : List Float} {v : List ℕ} → x < s .w - b → Entered s resp image x y out u new v → Scanned s resp image y mid t new v (x + 1)
@@ -306,7 +370,7 @@ module _ {s : Scan} {resp : List Float} {image : List ℕ} {y : ℕ} {mid : List
         onward-on (p .0) (e .onward _),
         record { on = λ k g m h. rw (e .tally) (counts-more (verdictIn s resp image) k u _ (place x y) (c .tally .long) (p .1 .on k g m h)) },
       ));
-      tally = rw (e .tally) (wider _ (tally-more u _ (rank-most (verdictIn s resp image (place x y))) (c .tally)) (omega arith));
+      tally = rw (e .tally) (wider _ (tally-plus u _ 1 (rank-most (verdictIn s resp image (place x y))) (c .tally)) (omega arith));
     }
 
     pub scan-all : s .w - b ≤ x → RowFound s resp image y mid t out u

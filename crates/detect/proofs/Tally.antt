@@ -1,19 +1,20 @@
 -- The tally's laws: what a candidate that is judged, or one that is passed over, does to it; and the six counts by subtraction. Assumes nothing.
 use mathlib.Core.Path.{_≡_, refl, sym, ap, _∙_}
-use mathlib.Core.Bool.{Bool, true, false, not}
+use mathlib.Core.Bool.{Bool, true, false}
 use Prim.Native.Nat.{ℕ, _+_, _-_, _*_, _≤_, _<_}
 use native.Mathlib.Omega.{arith}
-use borrow.Author.Tests.{eqb-true, eqb-false, ne-eqb}
+use borrow.Author.Tests.{eqb-true, eqb-false}
 use mathlib.Core.List.{List, [], _∷_, _++_}
 use lib.ListN.{length, getD, set, length-set, length-append}
 use lib.Seq.{getD-set-same, getD-set-other}
 use lib.Dec.{eqb}
 use Rattle.grid.specs.Each.{each, once, keep, count}
-use Rattle.grid.proofs.Each.{keep-ext, count-yes, count-no, count-either}
+use Rattle.grid.proofs.Each.{count-append, count-yes, count-no}
 use Rattle.verdict.specs.declared.Verdict.{Verdict}
 use Rattle.verdict.specs.declared.Verdict.the-variants.{NotAbove, Beaten, TooFew, TooFlat, WrongCurvature, Kept}
 use Rattle.verdict.specs.Verdict.{isKept, rank, sameVerdict}
-use Rattle.detect.specs.Scan.{Tally, more, keptOf}
+use Rattle.verdict.proofs.Rules.{rank-most}
+use Rattle.detect.specs.Scan.{Tally, plus, keptOf}
 
 -- ---- verdicts by rank
 
@@ -25,14 +26,6 @@ early-dropped TooFlat l = refl
 early-dropped WrongCurvature l = refl
 early-dropped Kept l = absurd (omega arith)
 
-pub rank-most : (v : Verdict) → rank v < 6
-rank-most NotAbove = omega arith
-rank-most Beaten = omega arith
-rank-most TooFew = omega arith
-rank-most TooFlat = omega arith
-rank-most WrongCurvature = omega arith
-rank-most Kept = omega arith
-
 -- the last rank is that of the kept
 pub kept-last : (v : Verdict) → isKept v ≡ eqb (rank v) 5
 kept-last NotAbove = refl
@@ -42,57 +35,70 @@ kept-last TooFlat = refl
 kept-last WrongCurvature = refl
 kept-last Kept = refl
 
--- ---- one more of rank r
+-- ---- n more of rank r
 
 module _ (t : List ℕ) where
   pub wider : {m n : ℕ} → Tally t m → m ≤ n → Tally t n
   wider h l = record { long = h .long; few = λ k. omega (arith, h .few k) }
 
-  module _ (r k : ℕ) (long : length t ≡ 6) (b : r < 6) where
-    -- entry k has one more where it is that of r
-    more-yes : eqb r k ≡ true → getD (more t r) k 0 ≡ getD t k 0 + 1
-    more-yes e =
+  module _ (r k n : ℕ) (long : length t ≡ 6) (b : r < 6) where
+    -- entry k has them where it is that of r
+    plus-yes : eqb r k ≡ true → getD (plus t r n) k 0 ≡ getD t k 0 + n
+    plus-yes e =
         let s : r ≡ k = eqb-true r k e in
         rw (← s) (getD-set-same t r _ 0 (omega arith))
 
-    more-no : eqb r k ≡ false → getD (more t r) k 0 ≡ getD t k 0
-    more-no e = getD-set-other t r k _ 0 (λ s. eqb-false r k e (sym s))
+    plus-no : eqb r k ≡ false → getD (plus t r n) k 0 ≡ getD t k 0
+    plus-no e = getD-set-other t r k _ 0 (λ s. eqb-false r k e (sym s))
 
-    more-few : getD (more t r) k 0 ≤ getD t k 0 + 1
-    more-few = go (eqb r k) refl
+    plus-few : getD (plus t r n) k 0 ≤ getD t k 0 + n
+    plus-few = go (eqb r k) refl
       where
-        go : (q : Bool) → eqb r k ≡ q → getD (more t r) k 0 ≤ getD t k 0 + 1
-        go true e = omega (arith, more-yes e)
-        go false e = omega (arith, more-no e)
+        go : (q : Bool) → eqb r k ≡ q → getD (plus t r n) k 0 ≤ getD t k 0 + n
+        go true e = omega (arith, plus-yes e)
+        go false e = omega (arith, plus-no e)
 
-  pub tally-more : (r : ℕ) {m : ℕ} → r < 6 → Tally t m → Tally (more t r) (m + 1)
-  tally-more r b h =
-      record { long = length-set t r _ ∙ h .long; few = λ k. omega (arith, h .few k, more-few r k (h .long) b) }
+  pub tally-plus : (r n : ℕ) {m : ℕ} → r < 6 → Tally t m → Tally (plus t r n) (m + n)
+  tally-plus r n b h =
+      record { long = length-set t r _ ∙ h .long; few = λ k. omega (arith, h .few k, plus-few r k n (h .long) b) }
 
   -- the kept ones
   module _ (v : Verdict) (long : length t ≡ 6) where
-    pub kept-more : isKept v ≡ true → keptOf (more t (rank v)) ≡ keptOf t + 1
-    kept-more e = more-yes (rank v) 5 long (rank-most v) (sym (kept-last v) ∙ e)
+    pub kept-more : isKept v ≡ true → keptOf (plus t (rank v) 1) ≡ keptOf t + 1
+    kept-more e = plus-yes (rank v) 5 1 long (rank-most v) (sym (kept-last v) ∙ e)
 
-    pub kept-same : isKept v ≡ false → keptOf (more t (rank v)) ≡ keptOf t
-    kept-same e = more-no (rank v) 5 long (rank-most v) (sym (kept-last v) ∙ e)
+    pub kept-same : isKept v ≡ false → keptOf (plus t (rank v) 1) ≡ keptOf t
+    kept-same e = plus-no (rank v) 5 1 long (rank-most v) (sym (kept-last v) ∙ e)
+
+  pub kept-passed : (n : ℕ) → length t ≡ 6 → keptOf (plus t 1 n) ≡ keptOf t
+  kept-passed n long = plus-no 1 5 n long (omega arith) refl
 
 -- ---- what it has counted: v is the verdict on each of the places l
 
-module _ {A : Type 0} (v : A → Verdict) (k : ℕ) (t : List ℕ) (l : List A) (a : A) where
+module _ {A : Type 0} (v : A → Verdict) (k : ℕ) (t : List ℕ) (l : List A) where
   -- entry k counts those of rank k
   abbrev Counts : List ℕ → List A → Type 0
   Counts t l = getD t k 0 ≡ count (λ p. eqb (rank (v p)) k) l
 
-  pub counts-more : length t ≡ 6 → Counts t l → Counts (more t (rank (v a))) (l ++ (a ∷ []))
-  counts-more long h = go (eqb (rank (v a)) k) refl
+  pub counts-more : (a : A) → length t ≡ 6 → Counts t l → Counts (plus t (rank (v a)) 1) (l ++ (a ∷ []))
+  counts-more a long h = go (eqb (rank (v a)) k) refl
     where
-      go : (q : Bool) → eqb (rank (v a)) k ≡ q → Counts (more t (rank (v a))) (l ++ (a ∷ []))
-      go true e = more-yes t (rank (v a)) k long (rank-most (v a)) e ∙ count-yes _ l a h e
-      go false e = more-no t (rank (v a)) k long (rank-most (v a)) e ∙ count-no _ l a h e
+      go : (q : Bool) → eqb (rank (v a)) k ≡ q → Counts (plus t (rank (v a)) 1) (l ++ (a ∷ []))
+      go true e = plus-yes t (rank (v a)) k 1 long (rank-most (v a)) e ∙ count-yes _ l a h e
+      go false e = plus-no t (rank (v a)) k 1 long (rank-most (v a)) e ∙ count-no _ l a h e
 
-  pub counts-skip : 2 ≤ k → rank (v a) ≤ 1 → Counts t l → Counts t (l ++ (a ∷ []))
-  counts-skip b e h = count-no _ l a h (ne-eqb (rank (v a)) k (λ s. absurd (omega arith)))
+  -- n of the places m are of rank 1, and none of a higher
+  pub counts-passed : (m : List A) {n : ℕ} → length t ≡ 6 → 1 ≤ k → n ≡ count (λ p. eqb (rank (v p)) 1) m
+      → (2 ≤ k → count (λ p. eqb (rank (v p)) k) m ≡ 0) → Counts t l → Counts (plus t 1 n) (l ++ m)
+  counts-passed m {n} long b one none h = go (eqb 1 k) refl
+    where
+      go : (q : Bool) → eqb 1 k ≡ q → Counts (plus t 1 n) (l ++ m)
+      go true e =
+          let s : 1 ≡ k = eqb-true 1 k e in
+          plus-yes t 1 k n long (omega arith) e ∙ (λ i. h i + (one ∙ ap (λ (j : ℕ). count (λ p. eqb (rank (v p)) j) m) s) i) ∙ sym (count-append (λ p. eqb (rank (v p)) k) l m)
+      go false e =
+          plus-no t 1 k n long (omega arith) e ∙ h
+          ∙ omega (arith, none (omega (arith, eqb-false 1 k e)), count-append (λ p. eqb (rank (v p)) k) l m)
 
 -- ---- the six counts together
 
@@ -129,8 +135,3 @@ module _ {A : Type 0} (v : A → Verdict) where
       one TooFlat = refl
       one WrongCurvature = refl
       one Kept = refl
-
-  -- those that are above the floor are those that are not `NotAbove`
-  pub above-are-rest : (above : A → Bool) (l : List A) → ((p : A) → sameVerdict (v p) NotAbove ≡ not (above p)) → count above l + of NotAbove l ≡ length l
-  unfolding count
-  above-are-rest above l e = ap (λ n. count above l + length n) (keep-ext _ _ e l) ∙ count-either above l

@@ -71,17 +71,16 @@ borderIn c = borderOf (c .params)
 abbrev pub rowsAbove : Scan → ℕ → List Place
 rowsAbove c y = rect (borderIn c) (c .w - borderIn c) (borderIn c) y
 
--- ---- the tally: entry k is how many of the judged candidates have passed just k tests. Places are passed over unjudged that have passed none or
--- one, so only the entries from 2 on count all
+-- ---- the tally: entry k is how many candidates have passed just k tests, and entry 0 is not kept
 
 -- six entries, none above a bound
 pub record Tally (t : List ℕ) (most : ℕ) : Type 0 where
   pub long : length t ≡ 6
   pub few : (k : ℕ) → getD t k 0 ≤ most
 
--- one more that has passed k
-abbrev pub more : List ℕ → ℕ → List ℕ
-more t k = set t k (getD t k 0 + 1)
+-- n more that have passed k
+abbrev pub plus : List ℕ → ℕ → ℕ → List ℕ
+plus t k n = set t k (getD t k 0 + n)
 
 -- the kept ones: that many corners are in the list
 abbrev pub keptOf : List ℕ → ℕ
@@ -89,17 +88,17 @@ keptOf t = getD t 5 0
 
 -- from where t had counted the places l₀, u has counted the places l
 pub record Tallied (c : Scan) (resp : List Float) (image : List ℕ) (t : List ℕ) (l₀ : List Place) (u : List ℕ) (l : List Place) : Type 0 where
-  pub on : (k : ℕ) → 2 ≤ k → k < 6 → getD t k 0 ≡ count (ranked c resp image k) l₀ → getD u k 0 ≡ count (ranked c resp image k) l
+  pub on : (k : ℕ) → 1 ≤ k → k < 6 → getD t k 0 ≡ count (ranked c resp image k) l₀ → getD u k 0 ≡ count (ranked c resp image k) l
 
--- how many are neither passed over nor beaten
-abbrev pub laterOf : List ℕ → ℕ
-laterOf t = getD t 2 0 + getD t 3 0 + getD t 4 0 + getD t 5 0
+-- all that are above the floor
+abbrev pub aboveOf : List ℕ → ℕ
+aboveOf t = getD t 1 0 + getD t 2 0 + getD t 3 0 + getD t 4 0 + getD t 5 0
 
--- the six counts of `all` candidates, of which `above` are above the floor: what is passed over unjudged by subtraction
-abbrev pub bySubtraction : ℕ → ℕ → List ℕ → Verdicts
-bySubtraction all above t = record {
-  «not_above» = all - above;
-  beaten = above - laterOf t;
+-- the six counts of `all` candidates
+abbrev pub bySubtraction : ℕ → List ℕ → Verdicts
+bySubtraction all t = record {
+  «not_above» = all - aboveOf t;
+  beaten = getD t 1 0;
   «too_few» = getD t 2 0;
   «too_flat» = getD t 3 0;
   «wrong_curvature» = getD t 4 0;
@@ -143,21 +142,18 @@ pub record Finding (c : Scan) (y : ℕ) (t : List ℕ) (resp image : ℕ) : Type
 
 -- ---- what is handed on
 
--- i is the next place of row y from a on, and at most e, that may pass the first two tests, whatever the image has
-pub record NextInRow (c : Scan) (resp : List Float) (y a e i : ℕ) : Type 0 where
+-- i is the next place of row y from a on, and at most e, that may pass the first two tests, whatever the image has; those before it that are above
+-- the floor are tallied as beaten
+pub record NextInRow (c : Scan) (resp : List Float) (y a e i : ℕ) (t u : List ℕ) : Type 0 where
   pub least : a ≤ i
   pub most : i ≤ e
   pub none : (image : List ℕ) (x : ℕ) → a ≤ x → x < i → rank (verdictIn c resp image (place x y)) ≤ 1
-
--- n candidates of row y are above the floor
-pub record AboveInRow (c : Scan) (resp : List Float) (y n : ℕ) : Type 0 where
-  pub count : n ≡ count (aboveIn c resp) (line (borderIn c) (c .w - borderIn c) y)
-  pub few : n ≤ c .w
+  pub tally : u ≡ plus t 1 (count (aboveIn c resp) (line a i y))
 
 -- with (x, y) judged and tallied, the list `mid` has become `out`, whatever the places l before were
 pub record Entered (c : Scan) (resp : List Float) (image : List ℕ) (x y : ℕ) (mid : List Float) (t : List ℕ) (out : List Float) (u : List ℕ) : Type 0 where
   pub onward : (l : List Place) → Onward stride (numbersIn c resp) (keptIn c resp image) mid (keptOf t) l out (keptOf u) (l ++ (place x y ∷ []))
-  pub tally : u ≡ more t (rank (verdictIn c resp image (place x y)))
+  pub tally : u ≡ plus t (rank (verdictIn c resp image (place x y))) 1
 
 -- with row y scanned, those of the rows above y have become those of the rows above y + 1
 pub record RowFound (c : Scan) (resp : List Float) (image : List ℕ) (y : ℕ) (mid : List Float) (t : List ℕ) (out : List Float) (u : List ℕ) : Type 0 where

@@ -6,9 +6,8 @@
 // neighbour in the row, is passed over unjudged, since no such place is kept. Where it stops, `judge_and_list` judges the candidate by all
 // rules and tallies its verdict; while the list has room, a kept one's three numbers are stored as the next of the list.
 //
-// The tally is whole for the verdicts that need more than the row to tell. What was passed over is not above the floor or beaten:
-// `above_in_row` counts what is above, a row at a time, and `by_subtraction` has the rest.
-use crests::count_above;
+// The tally has every candidate that is above the floor: those that are passed over and above it are beaten, for a neighbour in the row is greater,
+// and the search counts them as it goes. Who is left is not above: `by_subtraction`.
 use crests::max_response;
 use crests::next_candidate;
 use params::Input;
@@ -30,8 +29,8 @@ ghost use lib.Seq.{sets};
 ghost use Rattle.grid.specs.Rect.{place};
 ghost use Rattle.detect.specs.Corners.{stride};
 ghost use Rattle.verdict.specs.Room.{Cross};
-ghost use Rattle.detect.specs.Scan.{scanOf, floorIn, fittedAt, numbersIn, borderIn, Tally, laterOf, bySubtraction};
-ghost use Rattle.detect.specs.Scan.{Judging, Candidate, Finding, NextInRow, AboveInRow, Entered, RowFound, Found};
+ghost use Rattle.detect.specs.Scan.{scanOf, floorIn, fittedAt, numbersIn, Tally, aboveOf, bySubtraction};
+ghost use Rattle.detect.specs.Scan.{Judging, Candidate, Finding, NextInRow, Entered, RowFound, Found};
 
 // Along one axis, a peak of value v at entry c and pixel `at`, in the input image: its offset is fitted to the entries `step` before and after.
 fn fitted(
@@ -98,34 +97,33 @@ fn judge_and_list(
     tally[r] += 1;
 }
 
-// The next place of row y from `from` on, and before `to`, that may be kept; `to` where there is none.
-fn next_in_row(resp: &[f32], scan: Scan, y: usize, from: usize, to: usize) -> usize
-    requires { ⌜ (1 ≤ from) × (from ≤ to) × (to < scan .w) × (y * scan .w + scan .w ≤ length (now resp)) ⌝ }
-    ensures { λ i. ⌜ NextInRow scan (now (resp .entry)) y from to i ⌝ }
+// The next place of row y from `from` on, and before `to`, that may be kept; `to` where there is none. What is passed over and above the floor is
+// beaten: it is tallied.
+fn next_in_row(
+    resp: &[f32],
+    scan: Scan,
+    y: usize,
+    from: usize,
+    to: usize,
+    tally: &mut [usize],
+) -> usize
+    requires { ⌜ (1 ≤ from) × (from ≤ to) × (to < scan .w) × (scan .w ≤ 8192) × (y * scan .w + scan .w ≤ length (now resp)) ⌝ }
+    requires { ⌜ Tally (now tally) (8192 * 8192) ⌝ }
+    ensures { λ i. ⌜ NextInRow scan (now (resp .entry)) y from to i (now (tally .entry)) (now (tally .exit)) ⌝ }
 {
     let w = scan.w;
     let a = y * w;
     let e = a + w;
     let params = scan.params;
-    next_candidate(
+    let next = next_candidate(
         &resp[a..e],
         from,
         to,
         scan.floor,
         params.nms_radius as usize,
-    )
-}
-
-// How many candidates of row y are above the floor.
-fn above_in_row(resp: &[f32], scan: Scan, y: usize) -> usize
-    requires { ⌜ (2 * borderIn scan < scan .w) × (scan .w ≤ 8192) × (y * scan .w + scan .w ≤ length (now resp)) ⌝ }
-    ensures { λ n. ⌜ AboveInRow scan (now (resp .entry)) y n ⌝ }
-{
-    let w = scan.w;
-    let b = scan.params.border();
-    let a = y * w + b;
-    let e = a + (w - 2 * b);
-    count_above(&resp[a..e], scan.floor) as usize
+    );
+    tally[1] += next.above;
+    next.end
 }
 
 // The candidates of row y, after those above it.
@@ -142,26 +140,25 @@ fn find_in_row(
 {
     let b = scan.params.border();
     let ex = scan.w - b;
-    let mut x = next_in_row(resp, scan, y, b, ex);
+    let mut x = next_in_row(resp, scan, y, b, ex, tally);
     while x < ex {
         judge_and_list(resp, image, scan, x, y, tally, list);
-        x = next_in_row(resp, scan, y, x + 1, ex);
+        x = next_in_row(resp, scan, y, x + 1, ex, tally);
     }
 }
 
-// The six counts of `all` candidates, `above` of which are above the floor: the tally has those that the row does not tell.
-fn by_subtraction(all: usize, above: usize, tally: &[usize]) -> Verdicts
-    requires { ⌜ (all ≤ 8192 * 8192) × (above ≤ all) × (laterOf (now tally) ≤ above) × (length (now tally) ≡ 6) ⌝ }
-    ensures { λ r. ⌜ r ≡ bySubtraction all above (now (tally .entry)) ⌝ }
+// The six counts of `all` candidates: who is in no other entry of the tally is not above the floor.
+fn by_subtraction(all: usize, tally: &[usize]) -> Verdicts
+    requires { ⌜ (all ≤ 8192 * 8192) × (aboveOf (now tally) ≤ all) × (length (now tally) ≡ 6) ⌝ }
+    ensures { λ r. ⌜ r ≡ bySubtraction all (now (tally .entry)) ⌝ }
 {
+    let beaten = tally[1];
     let too_few = tally[2];
     let too_flat = tally[3];
     let wrong_curvature = tally[4];
     let kept = tally[5];
-    let not_above = all - above;
-    let beaten = above - (too_few + too_flat + wrong_curvature + kept);
     Verdicts {
-        not_above,
+        not_above: all - (beaten + too_few + too_flat + wrong_curvature + kept),
         beaten,
         too_few,
         too_flat,
@@ -198,11 +195,9 @@ pub fn find_peaks(resp: &[f32], image: &[u8], scan: Scan, list: &mut [f32]) -> V
     let b = scan.params.border();
     let ey = h - b;
     let mut tally = [0usize; 6];
-    let mut above: usize = 0;
     for y in b..ey {
-        above += above_in_row(resp, scan, y);
         find_in_row(resp, image, scan, y, &mut tally, list);
     }
     let all = (scan.w - 2 * b) * (ey - b);
-    by_subtraction(all, above, &tally)
+    by_subtraction(all, &tally)
 }

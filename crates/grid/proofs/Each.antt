@@ -1,7 +1,7 @@
 -- Laws of `each f l`: f of every entry of l, one after the other. A filter, a row of places and a list of numbers are
 -- each an `each`, so `each-append` serves
 use mathlib.Core.Path.{_≡_, refl, sym, ap, _∙_}
-use mathlib.Core.Bool.{Bool, true, false, not, _&&_, _||_, or-assoc, or-true, true≢false}
+use mathlib.Core.Bool.{Bool, true, false, _&&_, _||_, or-assoc, or-true, true≢false}
 use Prim.Native.Nat.{ℕ, zero, suc, _+_, _*_, _≤_}
 use native.Mathlib.Nat.{mul-zero, mul-suc}
 use native.Mathlib.Omega.{arith}
@@ -105,6 +105,11 @@ module _ {A : Type 0} where
       one true = omega arith
       one false = omega arith
 
+  pub count-never : (l : List A) → count (λ a. false) l ≡ 0
+  unfolding count keep each
+  count-never [] = refl
+  count-never (a ∷ l) = count-never l
+
   -- where p holds q does: q counts no fewer
   pub count-within : (p q : A → Bool) → ((a : A) → p a ≡ true → q a ≡ true) → (l : List A) → count p l ≤ count q l
   unfolding count keep each
@@ -122,23 +127,6 @@ module _ {A : Type 0} where
       one false c f = omega arith
       one true true f = omega arith
       one true false f = absurd (true≢false (sym (f refl)))
-
-  -- those at which p holds, and the others
-  pub count-either : (p : A → Bool) (l : List A) → count p l + count (λ a. not (p a)) l ≡ length l
-  unfolding count keep each
-  count-either p [] = refl
-  count-either p (a ∷ l) =
-      omega (
-        arith,
-        length-append (once (p a) a) (keep p l),
-        length-append (once (not (p a)) a) (keep (λ b. not (p b)) l),
-        one (p a),
-        count-either p l,
-      )
-    where
-      one : (b : Bool) → length (once b a) + length (once (not b) a) ≡ 1
-      one true = refl
-      one false = refl
 
   pub any-none : (p : A → Bool) → any p [] ≡ false
   unfolding any

@@ -7,7 +7,7 @@ use mathlib.Core.List.{List, [], _∷_, _++_, append-assoc, append-nil}
 use mathlib.Core.Bool.{Bool, true, false}
 use lib.ListN.{length, length-append}
 use Rattle.grid.specs.Each.{each, once, keep, count, any}
-use Rattle.grid.proofs.Each.{each-append, each-each, each-one, each-none, each-more, length-each, any-yes, any-made, any-each, count-made}
+use Rattle.grid.proofs.Each.{each-append, each-each, each-one, each-none, each-more, length-each, any-yes, any-made, any-each, count-made, count-append, count-most, count-never}
 use Rattle.grid.specs.Rect.{Place, place, from, range, line, rect}
 
 from-add : (a n m : ℕ) → from a (n + m) ≡ from a n ++ from (a + n) m
@@ -56,6 +56,23 @@ pub count-range-ext : (p q : ℕ → Bool) (a e : ℕ) → ((i : ℕ) → a ≤ 
 unfolding count keep
 count-range-ext p q a e h = ap length (range-ext _ _ a e (λ i b c. ap (λ (t : Bool). once t i) (h i b c)))
 
+length-from : (a n : ℕ) → length (from a n) ≡ n
+unfolding from
+length-from a zero = refl
+length-from a (suc n) = ap suc (length-from (suc a) n)
+
+-- two stretches, one after the other
+pub count-range-on : (p : ℕ → Bool) (a i e : ℕ) → a ≤ i → i ≤ e → count p (range a i) + count p (range i e) ≡ count p (range a e)
+count-range-on p a i e h k = sym (ap (count p) (range-split a i e h k) ∙ count-append p (range a i) (range i e))
+
+pub count-range-most : (p : ℕ → Bool) (a e : ℕ) → count p (range a e) ≤ e - a
+unfolding range
+count-range-most p a e = omega (arith, count-most p (from a (e - a)), length-from a (e - a))
+
+-- none of a stretch
+pub count-range-none : (p : ℕ → Bool) (a e : ℕ) → ((i : ℕ) → a ≤ i → i < e → p i ≡ false) → 0 ≡ count p (range a e)
+count-range-none p a e h = sym (count-range-ext p (λ i. false) a e h ∙ count-never (range a e))
+
 any-from : (p : ℕ → Bool) (a n : ℕ) → ((i : ℕ) → a ≤ i → i < a + n → p i ≡ false) → any p (from a n) ≡ false
 unfolding from any
 any-from p a zero h = refl
@@ -80,11 +97,6 @@ range-made a e =
 -- those before (x, y)
 unfoldable pub before : ℕ → ℕ → ℕ → ℕ → ℕ → List Place
 before ax ex ay x y = rect ax ex ay y ++ line ax x y
-
-length-from : (a n : ℕ) → length (from a n) ≡ n
-unfolding from
-length-from a zero = refl
-length-from a (suc n) = ap suc (length-from (suc a) n)
 
 pub length-line : (ax ex y : ℕ) → length (line ax ex y) ≡ ex - ax
 unfolding line range
@@ -135,6 +147,15 @@ line-made ax ex y = rw range-made (each-each _ _ _ ∙ range-ext _ _ 0 (ex - ax)
 
 pub count-line : (p : Place → Bool) (ax ex y : ℕ) → count p (line ax ex y) ≡ count (λ k. p (place (ax + k) y)) (range 0 (ex - ax))
 count-line p ax ex y = rw line-made (count-made (λ k. place (ax + k) y) p (range 0 (ex - ax)))
+
+pub count-columns : (p : Place → Bool) (ax ex y : ℕ) → count p (line ax ex y) ≡ count (λ x. p (place x y)) (range ax ex)
+unfolding line
+count-columns p ax ex y = count-made (λ x. place x y) p (range ax ex)
+
+-- a row from where a part of it ends
+pub before-on : (ax ex ay x i y : ℕ) → ax ≤ x → x ≤ i → before ax ex ay i y ≡ before ax ex ay x y ++ line x i y
+unfolding before line
+before-on ax ex ay x i y h k = rw (range-split ax x i h k, each-append, append-assoc)
 
 pub any-line-none : (p : Place → Bool) (ax ex y : ℕ) → ((k : ℕ) → k < ex - ax → p (place (ax + k) y) ≡ false) → any p (line ax ex y) ≡ false
 any-line-none p ax ex y h = rw line-made (any-made (λ k. place (ax + k) y) p (range 0 (ex - ax)) ∙ any-range-none _ 0 (ex - ax) (λ k b c. h k c))

@@ -9,13 +9,7 @@ use Rattle.params.specs.declared.answers.Answer.the-variants.{Mode}
 use Rattle.params.specs.declared.answers.Verdicts.{Verdicts}
 use Rattle.params.specs.declared.answers.Outcome.{Outcome}
 use Rattle.params.specs.declared.settings.RadonDetectorParams.{RadonDetectorParams}
-use Rattle.params.specs.Settings.{rayOf}
 use Rattle.params.specs.Answers.{numberOf, noVerdicts, refused}
-use Rattle.saddle.specs.declared.SaddleTest.{SaddleTest}
-use Rattle.saddle.specs.Saddle.{saddleNumbers}
-use Rattle.verdict.specs.declared.Verdict.{Verdict}
-use Rattle.verdict.specs.Verdict.{rank}
-use Rattle.verdict.specs.Judged.{judgedIn}
 use Rattle.detect.specs.Detected.{peaksOutcome, listOf}
 use Rattle.radon.specs.Finder.{Buffers, outcomeOf, buffersOf}
 use Rattle.response.specs.declared.Mapped.{Mapped}
@@ -23,7 +17,7 @@ use Rattle.response.specs.Map.{Buffers as MapBuffers, mappedOf, mapBuffersOf}
 use Rattle.steyrbunk_c.specs.declared.Settings.{Settings}
 use Rattle.steyrbunk_c.specs.declared.Settings.the-variants.{Given, NoSuchMode}
 use Rattle.steyrbunk_c.specs.Called.{Told, told, mapReported, mapTold, verdictNumbers}
-use Rattle.steyrbunk_c.specs.Called.{calledOutcome, calledBuffers, calledPeaks, calledList, placeSettings, calledVerdict}
+use Rattle.steyrbunk_c.specs.Called.{calledOutcome, calledBuffers, calledPeaks, calledList}
 use Rattle.steyrbunk_c.proofs.Cameras.{sets-whole}
 
 -- t is what the numbers give, s what the code has of it, x what it told
@@ -81,14 +75,3 @@ module _ (img : List ℕ) (w h : ℕ) (b : MapBuffers) {p q : RadonDetectorParam
     (λ i. mapReported (k i) (m .w) (m .h)) ∙ ap mapTold (u ∙ ap (λ (p : RadonDetectorParams). mappedOf img w h p b) e),
     v ∙ ap (λ (p : RadonDetectorParams). mapBuffersOf img w h p b) e,
   )
-
--- the verdict on a place, by the scan that was made of the call's numbers
-pub verdict-told : (response : List Float) (image : List ℕ) (w h ray nms least : ℕ) (floor : Float) (x y : ℕ)
-    {p : RadonDetectorParams} {k : ℕ} {t : SaddleTest} {v : Verdict} {r : ℕ}
-    → p ≡ placeSettings ray nms least → k ≡ rayOf (p .«ray_radius») → t ≡ saddleNumbers k
-    → v ≡ judgedIn (record { w = w; h = h; params = p; test = t; floor = floor }) response image x y → r ≡ rank v
-    → r ≡ calledVerdict response image w h ray nms least floor x y
-unfolding calledVerdict
-verdict-told response image w h ray nms least floor x y e f g d q =
-    let test = g ∙ ap saddleNumbers (f ∙ ap (λ (p : RadonDetectorParams). rayOf (p .«ray_radius»)) e) in
-    q ∙ ap rank (d ∙ (λ i. judgedIn (record { w = w; h = h; params = e i; test = test i; floor = floor }) response image x y))

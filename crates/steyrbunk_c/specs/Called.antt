@@ -3,20 +3,15 @@ use mathlib.Core.List.{List, [], _∷_}
 use Prim.Native.Nat.{ℕ}
 use lib.Ieee.{Float}
 use Rattle.params.specs.declared.settings.PeakFitMode.{PeakFitMode}
-use Rattle.params.specs.declared.settings.PeakFitMode.the-variants.{Gaussian}
 use Rattle.params.specs.declared.settings.NumberedMode.{NumberedMode}
 use Rattle.params.specs.declared.settings.NumberedMode.the-variants.{Known, Refused}
 use Rattle.params.specs.declared.settings.RadonDetectorParams.{RadonDetectorParams}
 use Rattle.params.specs.declared.answers.Answer.the-variants.{Mode}
 use Rattle.params.specs.declared.answers.Verdicts.{Verdicts}
 use Rattle.params.specs.declared.answers.Outcome.{Outcome}
-use Rattle.params.specs.Settings.{defaults, modeNumbered, rayOf}
+use Rattle.params.specs.Settings.{defaults, modeNumbered}
 use Rattle.params.specs.Answers.{numberOf, refused}
 use Rattle.response.specs.declared.Mapped.{Mapped}
-use Rattle.float.specs.Values.{f0}
-use Rattle.saddle.specs.Saddle.{saddleNumbers}
-use Rattle.verdict.specs.Verdict.{rank}
-use Rattle.verdict.specs.Judged.{judgedIn}
 use Rattle.detect.specs.Detected.{peaksOutcome, listOf}
 use Rattle.radon.specs.Finder.{Buffers, outcomeOf, buffersOf}
 use Rattle.steyrbunk_c.specs.declared.Settings.{Settings}
@@ -104,24 +99,3 @@ calledPeaks NoSuchMode w h response image len = refused Mode
 abbrev pub calledList : Settings → ℕ → ℕ → List Float → List ℕ → List Float → List Float
 calledList (Given p) w h response image old = listOf p w h response image old
 calledList NoSuchMode w h response image old = old
-
--- ---- the verdict on one place, by how many of the five tests it passes: 0 not above the floor, 1 beaten, 2 too few, 3 too flat, 4 wrong
--- curvature, 5 kept. The floor is the caller's
-
--- the settings that it goes by; it does not go by the others
-abbrev pub placeSettings : ℕ → ℕ → ℕ → RadonDetectorParams
-placeSettings ray nms least = record {
-  «ray_radius» = ray;
-  «image_upsample» = 1;
-  «response_blur_radius» = 0;
-  «peak_fit» = Gaussian;
-  «threshold_rel» = f0;
-  «nms_radius» = nms;
-  «min_cluster_size» = least;
-}
-
-unfoldable pub calledVerdict : List Float → List ℕ → ℕ → ℕ → ℕ → ℕ → ℕ → Float → ℕ → ℕ → ℕ
-calledVerdict response image w h ray nms least floor x y =
-    rank (judgedIn
-    (record { w = w; h = h; params = placeSettings ray nms least; test = saddleNumbers (rayOf ray); floor = floor })
-    response image x y)

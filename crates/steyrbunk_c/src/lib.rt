@@ -15,7 +15,7 @@ ghost use Rattle.radon.specs.Finder.{lent};
 ghost use Rattle.arch.specs.Arch.{archOutcome, archBuffers};
 ghost use Rattle.record.specs.Record.{version, stride, writeOutcome, written, readOutcome, readBack};
 ghost use Rattle.steyrbunk_c.specs.Called.{settingsOf, mapSettings, reported, told, mapReported, mapTold, verdictNumbers, cameraNumbers};
-ghost use Rattle.steyrbunk_c.specs.Called.{calledOutcome, calledBuffers, calledPeaks, calledList, placeSettings, calledVerdict};
+ghost use Rattle.steyrbunk_c.specs.Called.{calledOutcome, calledBuffers, calledPeaks, calledList};
 ghost use Rattle.steyrbunk_c.specs.OrNan.{rootOrNan, logOrNan};
 use arch::run_arch;
 use params::Answer;
@@ -30,9 +30,6 @@ use record::write_record;
 use response::radon_response_u8;
 use scalar::Log;
 use scalar::Root;
-use verdict::Scan;
-use verdict::judge_at;
-use verdict::rank;
 
 // The settings that a call's numbers give.
 enum Settings {
@@ -289,50 +286,6 @@ pub extern "C" fn steyrbunk_detect_peaks(
     *count = o.count;
     put_verdicts(o.verdicts, verdicts, 0);
     answer.number()
-}
-
-// The settings that a verdict goes by.
-fn place_settings(ray: u32, nms: u32, least: u32) -> RadonDetectorParams
-    ensures { λ r. ⌜ r ≡ placeSettings ray nms least ⌝ }
-{
-    RadonDetectorParams {
-        ray_radius: ray,
-        image_upsample: 1,
-        response_blur_radius: 0,
-        peak_fit: PeakFitMode::Gaussian,
-        threshold_rel: 0.0,
-        nms_radius: nms,
-        min_cluster_size: least,
-    }
-}
-
-// The verdict on one place of a map over its work image, by how many of the five tests it passes: for drawings of what was dropped.
-#[no_mangle]
-pub extern "C" fn steyrbunk_verdict(
-    response: &[f32],
-    image: &[u8],
-    w: usize,
-    h: usize,
-    ray: u32,
-    nms: u32,
-    least: u32,
-    floor: f32,
-    x: usize,
-    y: usize,
-) -> u32
-    ensures { λ r. ⌜ r ≡ calledVerdict (now (response .entry)) (now (image .entry)) w h ray nms least floor x y ⌝ }
-{
-    let params = place_settings(ray, nms, least);
-    let k = params.ray_radius_clamped() as usize;
-    let test = saddle::new(k);
-    let scan = Scan {
-        w,
-        h,
-        params,
-        test,
-        floor,
-    };
-    rank(judge_at(response, image, scan, x, y)) as u32
 }
 
 // The record of a list, with the sides of its working image.

@@ -19,10 +19,10 @@ use Rattle.saddle.specs.Saddle.{saddleOf, saddleAt, diskFits}
 use Rattle.saddle.specs.Steps.{Around}
 use Rattle.saddle.proofs.Fitting.{accepts-plain}
 use Rattle.verdict.specs.declared.Verdict.{Verdict}
-use Rattle.verdict.specs.declared.Verdict.the-variants.{NotAbove, Beaten, TooFew}
+use Rattle.verdict.specs.declared.Verdict.the-variants.{NotAbove, Beaten, TooFew, TooFlat, WrongCurvature, Kept}
 use Rattle.verdict.specs.declared.Scan.{Scan}
 use Rattle.verdict.specs.Window.{beaten, positives}
-use Rattle.verdict.specs.Verdict.{bySaddle, firstFailing, verdict}
+use Rattle.verdict.specs.Verdict.{bySaddle, firstFailing, rank, verdict}
 use Rattle.verdict.specs.Judged.{windowFits, saddleIn, firstFailingIn, judgedIn}
 use Rattle.verdict.specs.Room.{Room}
 
@@ -95,3 +95,13 @@ module _ (s : Scan) (resp : List Float) (image : List ℕ) (x y : ℕ) where
       → v ≡ judgedIn s resp image x y → v ≡ verdict (s .params) (s .floor) map (pixel image (s .w)) here
   unfolding firstFailingIn verdict
   judged-plain w d t e = rw (square-so w, accepts-plain d (s .test) (pixel image (s .w)) refl, t) at e
+
+-- ---- ranks
+
+pub rank-most : (v : Verdict) → rank v < 6
+rank-most NotAbove = omega arith
+rank-most Beaten = omega arith
+rank-most TooFew = omega arith
+rank-most TooFlat = omega arith
+rank-most WrongCurvature = omega arith
+rank-most Kept = omega arith

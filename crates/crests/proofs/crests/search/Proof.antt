@@ -38,8 +38,8 @@ next c =
     worth-above (o .args .r) (o .args .floor) (o .args .s .now) (o .args .from) (o .args .to) (c .before .before .if1 .left)
     (omega arith) (omega arith) (c .first-above .ensures)
 
-add-result : tie.Need-add-result
-add-result c = omega (arith, next c .most)
+add-t8 : tie.Need-add-t8
+add-t8 c = omega (arith, next c .0 .most)
 
 pub search-spec : {M : Type 1} → statement M
 search-spec =
@@ -52,5 +52,5 @@ search-spec =
     part-first-above-start
     part-first-above-end
     first-above-requires
-    add-result
+    add-t8
     next)

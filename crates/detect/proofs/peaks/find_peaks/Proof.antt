@@ -1,29 +1,23 @@
 -- `detect::peaks::find_peaks` meets its contract. The invariant is `FoundTo`: what is found and counted in the rows above. Assumes nothing.
 use mathlib.Core.Path.{_≡_, ap}
-use Prim.Native.Nat.{ℕ, _-_, _*_, _<_}
+use Prim.Native.Nat.{ℕ, _-_, _*_}
 use native.Mathlib.Nat.{mul-le-mul}
 use native.Mathlib.Omega.{arith}
 use mir.Facts.{fits-le, fits-lit}
-use lib.ListN.{length}
-use Rattle.detect.specs.Scan.{borderIn, Judging, Finding}
-use Rattle.detect.proofs.Rows.{Summed, FoundTo, found-none, found-more, found-inside, found-all, finding, subtracts}
+use Rattle.detect.proofs.Rows.{FoundTo, found-none, found-more, found-inside, found-all, finding, subtracts}
 use borrow.Author.Needs.{needs}
 use Rattle.detect.proofs.peaks.find_peaks.Statement.{statement}
 use Rattle.detect.proofs.peaks.find_peaks.Tie as tie
 
 abbrev Inv-loop : tie.InvT-loop
-Inv-loop resp image scan list₀ h b ey tally₀ above₀ y₀ list tally above y = FoundTo scan resp image list₀ list tally above y
+Inv-loop resp image scan list₀ h b ey tally₀ y₀ list tally y = FoundTo scan resp image list₀ list tally y
 
 abbrev μ-loop : tie.MeasureT-loop
-μ-loop resp image scan list₀ h b ey tally₀ above₀ y₀ list tally above y = ey - y
+μ-loop resp image scan list₀ h b ey tally₀ y₀ list tally y = ey - y
 
 -- from the border back to the start
 abbrev start : tie.After-border Inv-loop μ-loop → tie.Start Inv-loop μ-loop
 start c = c .before .before .before .before
-
--- from a row that is scanned back to its count, and from there to the turn's test
-abbrev counted : tie.After-find-in-row Inv-loop μ-loop → tie.After-above-in-row Inv-loop μ-loop
-counted c = c .before .before .before
 
 -- from the tally at the end back to the loop
 abbrev looped : tie.After-tally3 Inv-loop μ-loop → tie.At-loop Inv-loop μ-loop
@@ -42,21 +36,12 @@ sub-ey c = omega (arith, start c .pre .0 .asked .higher)
 loop-holds : tie.Need-loop-holds Inv-loop μ-loop
 loop-holds c = found-none (c .border .ensures) (start c .pre .0 .asked .higher)
 
-above-in-row-requires : tie.Need-above-in-row-requires Inv-loop μ-loop
-above-in-row-requires c κs =
-    let l = c .before in
-    let j = start (l .before) .pre .0 in
-    (j .asked .wider, j .asked .wide, finding (l .loop .inv) j (omega arith) .row)
-
-add-above : tie.Need-add-above Inv-loop μ-loop
-add-above c = omega arith
-
 slice-aggregate-find-in-row : tie.Need-slice-aggregate-find-in-row Inv-loop μ-loop
 slice-aggregate-find-in-row c = search needs
 
 find-in-row-requires : tie.Need-find-in-row-requires Inv-loop μ-loop
 find-in-row-requires c κs =
-    let l = c .before .before .before .before in
+    let l = c .before .before .before in
     finding (l .loop .inv) (start (l .before) .pre .0) (omega arith)
 
 add-y : tie.Need-add-y Inv-loop μ-loop
@@ -68,9 +53,7 @@ loop-less c = omega arith
 loop-again : tie.Need-loop-again Inv-loop μ-loop
 loop-again c =
     let r = c .before .before .before in
-    let a = counted r in
-    let l = a .before .before in
-    found-more (l .loop .inv) (start (l .before) .pre .0 .asked .wide) (omega arith) (a .above-in-row .ensures) (r .find-in-row .ensures)
+    found-more (r .before .before .before .before .loop .inv) (omega arith) (r .find-in-row .ensures)
 
 mul-all : tie.Need-mul-all Inv-loop μ-loop
 mul-all c = omega arith
@@ -95,7 +78,7 @@ by-subtraction-requires c κs =
     let b = l .before in
     let a = start b .pre .0 .asked in
     let s = subtracts (found-inside (l .loop .inv) (omega arith)) (ap (product (start b .args .scan .w) (start b .args .scan .h)) (b .border .ensures)) (a .wide) (a .high) in
-    (s .0, s .1, s .2, l .loop .inv .tally .long)
+    (s .0, s .1, l .loop .inv .tally .long)
 
 same-length : tie.Need-same-length Inv-loop μ-loop
 same-length c = looped (c .before) .loop .inv .down .holds .list .long
@@ -116,8 +99,6 @@ find-peaks-spec =
     border-requires
     sub-ey
     loop-holds
-    above-in-row-requires
-    add-above
     slice-aggregate-find-in-row
     find-in-row-requires
     add-y

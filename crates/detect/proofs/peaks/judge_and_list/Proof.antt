@@ -11,7 +11,7 @@ use lib.Dec.{ltb}
 use lib.ListN.{length}
 use Rattle.detect.specs.Corners.{stride}
 use Rattle.detect.specs.Scan.{verdictIn, keptOf}
-use Rattle.detect.proofs.Tally.{rank-most}
+use Rattle.verdict.proofs.Rules.{rank-most}
 use Rattle.detect.proofs.Scanning.{near, judged-is, entered-not, entered-put}
 use borrow.Author.Needs.{needs}
 use Rattle.detect.proofs.peaks.judge_and_list.Statement.{statement}

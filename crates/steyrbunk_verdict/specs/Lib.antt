@@ -1,0 +1,2 @@
+-- What the function for C and Rust promises.
+pub mod Place
