@@ -20,13 +20,14 @@ use Rattle.params.specs.declared.settings.RadonDetectorParams.{RadonDetectorPar
 use Rattle.params.specs.Answers.{numberOf, refused}
 use Rattle.detect.specs.Corners.{stride}
 use Rattle.detect.proofs.HigherSettings.{raised}
+use Rattle.detect.proofs.HigherCounts.{HigherCounts}
 use Rattle.frame.specs.declared.Header.{Header}
 use Rattle.frame.specs.declared.Reading.the-variants.{Frame}
 use Rattle.frame.specs.FrameFile.{readOf}
 use Rattle.radon.specs.Finder.{Buffers, outcomeOf, buffersOf}
 use Rattle.radon.proofs.Left.{Accepted as FinderAccepted}
 use Rattle.radon.proofs.Lists.{roomIn, ListFiltered, ListOpens}
-use Rattle.radon.proofs.Demands.{pixels, higher-setting, shorter-list, raised-frame-same-map}
+use Rattle.radon.proofs.Demands.{pixels, higher-setting, higher-setting-counts, shorter-list, raised-frame-same-map}
 use Rattle.frame_runner.specs.FileAnswer.{outcomeFor, fileOutcome, buffersFor, fileBuffers}
 use Rattle.arch.specs.declared.ArchOutcome.{ArchOutcome}
 use Rattle.arch_plan.specs.declared.due.Due.{Due}
@@ -322,6 +323,14 @@ module _ (n : ℕ) (frames : List ℕ) (b : Buffers) (i : ℕ) (m : ℕ) (others
       filtered (finds low) (finds high)
       (higher-setting img w h p t least (single n frames b i) (single m others c j) (low .takes) (high .takes) above more
       (omega (arith, room-is low)) (omega (arith, room-is high)))
+
+  -- the six counts of the two, whatever room the shares have
+  pub higher-counts-by-frame : (img : List ℕ) (t : Float) (least : ℕ) → Reads n frames b i img w h p → Reads m others c j img w h (raised p t least)
+      → T (le (p .«threshold_rel») t) → p .«min_cluster_size» ≤ least
+      → HigherCounts ((toldTo n frames b i) .verdicts) ((toldTo m others c j) .verdicts)
+  higher-counts-by-frame img t least low high above more =
+      rw (finds low .told, finds high .told)
+      (higher-setting-counts img w h p t least (single n frames b i) (single m others c j) (low .takes) (high .takes) above more)
 
   -- "A shorter list holds the opening corners of a longer one, with the same total."
   pub shorter-list-by-frame : (img : List ℕ) → Reads n frames b i img w h p → Reads m others c j img w h p → size n b ≤ size m c

@@ -157,9 +157,9 @@ module _ (floor : Float) (s : List Float) where
         above = rw (range-more a i (w .passed .least)) (count-yes (over floor s) (range a i) i (w .above) u);
       }
 
-      pub went-under : {r : Bool} → i < e → r ≡ crest floor s i → r ≡ false → over floor s i ≡ false → Went floor s a e (i + 1) n
-      went-under b h t u = record {
-        passed = passed-one (crest floor s) a e (w .passed) b h t;
+      pub went-under : i < e → over floor s i ≡ false → Went floor s a e (i + 1) n
+      went-under b u = record {
+        passed = passed-one (crest floor s) a e (w .passed) b (sym (rw u refl)) refl;
         above = rw (range-more a i (w .passed .least)) (count-no (over floor s) (range a i) i (w .above) u);
       }
 

@@ -141,16 +141,16 @@ fn next_crest(s: &[f32], from: usize, to: usize, floor: f32) -> Stretch
     ensures { λ r. ⌜ Next (crest floor (now (s .entry))) from to (r .end) × (r .above ≡ aboveFrom floor (now (s .entry)) from (r .end)) ⌝ }
 {
     let eights = pass_flat_eights(s, from, to, floor);
-    let mut i = eights.end;
+    let mut k = eights.end;
     let mut above = eights.above;
-    while i < to {
-        if is_crest(s, i, floor) {
-            return Stretch { end: i, above };
-        }
-        if s[i] > floor {
+    while k < to {
+        if s[k] > floor {
+            if is_crest(s, k, floor) {
+                return Stretch { end: k, above };
+            }
             above += 1;
         }
-        i += 1;
+        k += 1;
     }
     Stretch { end: to, above }
 }

@@ -1,4 +1,4 @@
--- `crests::crests::next_crest` meets its contract. The invariant is `Went`: there is no crest before i, and what is above is counted.
+-- `crests::crests::next_crest` meets its contract. The invariant is `Went`: there is no crest before k, and what is above is counted.
 -- Assumes nothing.
 use mathlib.Core.Logic.{inl, inr}
 use Prim.Native.Nat.{_-_}
@@ -9,10 +9,10 @@ use Rattle.crests.proofs.crests.next_crest.Statement.{statement}
 use Rattle.crests.proofs.crests.next_crest.Tie as tie
 
 abbrev Inv-loop : tie.InvT-loop
-Inv-loop s from to floor i₀ above₀ i above = Went floor s from to i above
+Inv-loop s from to floor k₀ above₀ k above = Went floor s from to k above
 
 abbrev μ-loop : tie.MeasureT-loop
-μ-loop s from to floor i₀ above₀ i above = to - i
+μ-loop s from to floor k₀ above₀ k above = to - k
 
 pass-flat-eights-requires : tie.Need-pass-flat-eights-requires Inv-loop μ-loop
 pass-flat-eights-requires c κs = omega arith
@@ -20,35 +20,37 @@ pass-flat-eights-requires c κs = omega arith
 loop-holds : tie.Need-loop-holds Inv-loop μ-loop
 loop-holds c = c .pass-flat-eights .ensures
 
+mul-if1 : tie.Need-mul-if1 Inv-loop μ-loop
+mul-if1 c = omega arith
+
+shared-slice-read-if1 : tie.Need-shared-slice-read-if1 Inv-loop μ-loop
+shared-slice-read-if1 c = omega arith
+
 is-crest-requires : tie.Need-is-crest-requires Inv-loop μ-loop
 is-crest-requires c κs = omega arith
 
+-- from the crest's test back to the loop
+abbrev looped : tie.After-is-crest Inv-loop μ-loop → tie.At-loop Inv-loop μ-loop
+looped c = c .before .before .before .before
+
 returns : tie.Need-returns Inv-loop μ-loop
-returns c = went-found _ _ _ _ (c .before .before .before .loop .inv) (c .before .is-crest .ensures) (c .if1 .taken)
-
-mul-if2 : tie.Need-mul-if2 Inv-loop μ-loop
-mul-if2 c = omega arith
-
-shared-slice-read-if2 : tie.Need-shared-slice-read-if2 Inv-loop μ-loop
-shared-slice-read-if2 c = omega arith
+returns c = went-found _ _ _ _ (looped (c .before) .loop .inv) (c .before .is-crest .ensures) (c .if2 .taken)
 
 add-above : tie.Need-add-above Inv-loop μ-loop
-add-above c = omega (arith, went-few _ _ _ _ (c .before .before .before .before .before .loop .inv))
+add-above c = omega (arith, went-few _ _ _ _ (looped (c .before) .loop .inv))
 
-add-i : tie.Need-add-i Inv-loop μ-loop
-add-i c = omega arith
+add-k : tie.Need-add-k Inv-loop μ-loop
+add-k c = omega arith
 
 loop-less : tie.Need-loop-less Inv-loop μ-loop
 loop-less c = omega arith
 
 loop-again : tie.Need-loop-again Inv-loop μ-loop
 loop-again c =
-    let n = c .before .before in
-    let e = n .before in
-    let l = e .before .before in
-    elim (c .if2 .came) [
-      | inl k ↦ rw (k .1) (went-above _ _ _ _ (l .loop .inv) (omega arith) (e .is-crest .ensures) (n .if1 .left) (k .0 .taken))
-      | inr k ↦ rw (k .1) (went-under _ _ _ _ (l .loop .inv) (omega arith) (e .is-crest .ensures) (n .if1 .left) (k .0 .left))
+    let l = c .before .before .before in
+    elim (c .if1 .came) [
+      | inl k ↦ rw (k .3) (went-above _ _ _ _ (l .loop .inv) (omega arith) (k .1 .ensures) (k .2 .left) (k .0 .taken))
+      | inr k ↦ rw (k .1) (went-under _ _ _ _ (l .loop .inv) (omega arith) (k .0 .left))
     ]
 
 returns-2 : tie.Need-returns-2 Inv-loop μ-loop
@@ -62,12 +64,12 @@ next-crest-spec =
     μ-loop
     pass-flat-eights-requires
     loop-holds
+    mul-if1
+    shared-slice-read-if1
     is-crest-requires
     returns
-    mul-if2
-    shared-slice-read-if2
     add-above
-    add-i
+    add-k
     loop-less
     loop-again
     returns-2)
