@@ -1,6 +1,14 @@
-//! Finds the corners of a board that the example draws itself, with the default settings, keeps them as a record and reads it back.
+//! Finds the corners of a board that the example draws itself, with the default settings, says what became of the other pixels, keeps
+//! the corners as a record and reads it back.
 
-use steyrbunk::{record, Finder, Found, Image, Refusal, Settings};
+use steyrbunk::{record, Finder, Found, Image, Refusal, Settings, Verdict, Verdicts};
+
+/// How many candidates failed which rule first, or were kept.
+fn told(verdicts: Verdicts) {
+    for verdict in Verdict::ALL {
+        println!("{} {}", verdicts.of(verdict), verdict.words());
+    }
+}
 
 /// What would be kept in a file, and read again years later.
 fn kept(found: &Found) -> Result<Found, Refusal> {
@@ -24,6 +32,7 @@ fn main() {
         height,
     };
     let found = finder.find(image, &Settings::default());
+    told(finder.verdicts());
     match found.and_then(|found| kept(&found)) {
         Ok(found) => {
             for corner in &found.corners {

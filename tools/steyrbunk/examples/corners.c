@@ -1,4 +1,4 @@
-/* Reads an 8-bit PGM picture (P5) from standard input and prints its corners. */
+/* Reads an 8-bit PGM picture (P5) from standard input and prints its corners, and on standard error what became of its candidates. */
 #include <ctype.h>
 #include <stdio.h>
 #include <stdlib.h>
@@ -45,9 +45,9 @@ int main(void) {
         fprintf(stderr, "no memory\n");
         return 2;
     }
-    size_t given = fread(image, 1, pixels, stdin), count;
-    uint32_t answer = steyrbunk_find_in(
-        image, given, (size_t)width, (size_t)height, &settings, workspace, bytes, list, 3 * ROOM, &count);
+    size_t given = fread(image, 1, pixels, stdin), count, verdicts[STEYRBUNK_VERDICTS];
+    uint32_t answer = steyrbunk_corners_in(
+        image, given, (size_t)width, (size_t)height, &settings, workspace, bytes, list, 3 * ROOM, &count, verdicts);
 
     if (answer > 1) {
         /* No list: whoever waits for one must not be given an older one. */
@@ -57,6 +57,8 @@ int main(void) {
         for (size_t at = 0; at < count && at < ROOM; at++)
             printf("%.9g %.9g %.9g\n", list[3 * at], list[3 * at + 1], list[3 * at + 2]);
         if (answer == 1) fprintf(stderr, "the list is cut: there is room for %d corners\n", ROOM);
+        for (size_t at = 0; at < STEYRBUNK_VERDICTS; at++)
+            fprintf(stderr, "%zu %s\n", verdicts[at], steyrbunk_verdict_words(at));
     }
     free(image), free(workspace), free(list);
     return answer > 1;

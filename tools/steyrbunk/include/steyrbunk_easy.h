@@ -5,10 +5,16 @@
  *     size_t bytes = steyrbunk_workspace(width, height, &settings);
  *     void *workspace = malloc(bytes);
  *     float list[3 * 1024];
- *     size_t count;
- *     uint32_t answer = steyrbunk_find_in(image, image_len, width, height, &settings,
- *                                         workspace, bytes, list, 3 * 1024, &count);
+ *     size_t count, verdicts[STEYRBUNK_VERDICTS];
+ *     uint32_t answer = steyrbunk_corners_in(image, image_len, width, height, &settings,
+ *                                            workspace, bytes, list, 3 * 1024, &count, verdicts);
  *     if (answer > 1) fprintf(stderr, "refused %u: %s\n", answer, steyrbunk_words(answer));
+ *     for (size_t i = 0; i < STEYRBUNK_VERDICTS; i++) printf("%zu %s\n", verdicts[i], steyrbunk_verdict_words(i));
+ *
+ * and, with an answer of 0 or 1, the verdict on each candidate, x and y from steyrbunk_border(&settings) on:
+ *
+ *     float floor = steyrbunk_floor_in(workspace, bytes, width, height, &settings);
+ *     uint32_t verdict = steyrbunk_verdict_in(workspace, bytes, width, height, &settings, floor, x, y);
  *
  * and, where the answer was 0, to keep what was found and to read it back:
  *
@@ -64,10 +70,15 @@ static inline size_t steyrbunk_working_pixels(size_t width, size_t height, const
     return pixels > STEYRBUNK_GREATEST_WORKING ? 0 : pixels;
 }
 
+/* Working pixels about the edge that are no candidates. */
+static inline size_t steyrbunk_border(const steyrbunk_settings *settings) {
+    size_t ray = settings->ray_radius == 0 ? 1 : settings->ray_radius;
+    return ray + settings->nms_radius + 1;
+}
+
 /* Input pixels that either side of an image has at least: one that has less is refused, 15. */
 static inline size_t steyrbunk_least_side(const steyrbunk_settings *settings) {
-    size_t ray = settings->ray_radius == 0 ? 1 : settings->ray_radius;
-    size_t border = ray + settings->nms_radius + 1;
+    size_t border = steyrbunk_border(settings);
     return (settings->image_upsample < 2 ? 2 * border : border) + 1;
 }
 
@@ -99,23 +110,64 @@ static inline steyrbunk_parts steyrbunk_apart(void *workspace, size_t entries) {
     return parts;
 }
 
-/* Map and list of an image. The arguments are those of steyrbunk_find, but for the workspace, which must be
+/* Entries of each buffer that an image needs; none where the workspace is too short for them. */
+static inline size_t steyrbunk_lent(
+    size_t workspace_len, size_t width, size_t height, const steyrbunk_settings *settings) {
+    size_t bytes = steyrbunk_workspace(width, height, settings);
+    return workspace_len < bytes ? 0 : steyrbunk_working_pixels(width, height, settings);
+}
+
+/* Map and list of an image. The arguments are those of steyrbunk_corners, but for the workspace, which must be
  * aligned as malloc aligns, or at least to four bytes. What it held before changes nothing; with an answer
  * above 1 it is as it was. A workspace that is too short: 9, by the same order as the other answers.
  * list_len counts floats, three a corner. */
-static inline uint32_t steyrbunk_find_in(
+static inline uint32_t steyrbunk_corners_in(
     const uint8_t *image, size_t image_len, size_t width, size_t height, const steyrbunk_settings *settings,
-    void *workspace, size_t workspace_len, float *list, size_t list_len, size_t *count) {
-    size_t pixels = steyrbunk_working_pixels(width, height, settings);
+    void *workspace, size_t workspace_len, float *list, size_t list_len, size_t *count, size_t verdicts[6]) {
     /* Where it is too short no buffer is lent, and the answer is the library's. */
-    size_t entries = workspace_len < steyrbunk_workspace(width, height, settings) ? 0 : pixels;
+    size_t entries = steyrbunk_lent(workspace_len, width, height, settings);
     steyrbunk_parts in = steyrbunk_apart(workspace, entries);
     size_t w, h;
-    return steyrbunk_find(
+    return steyrbunk_corners(
         image, image_len, width, height, settings->ray_radius, settings->image_upsample,
         settings->response_blur_radius, settings->peak_fit, settings->threshold_rel, settings->nms_radius,
         settings->min_cluster_size, in.working, entries, in.row, entries, in.col, entries, in.falling, entries,
-        in.rising, entries, in.response, entries, in.scratch, entries, list, list_len, count, &w, &h);
+        in.rising, entries, in.response, entries, in.scratch, entries, list, list_len, count, &w, &h, verdicts);
+}
+
+/* The same without the verdicts, as before there were any. */
+static inline uint32_t steyrbunk_find_in(
+    const uint8_t *image, size_t image_len, size_t width, size_t height, const steyrbunk_settings *settings,
+    void *workspace, size_t workspace_len, float *list, size_t list_len, size_t *count) {
+    size_t verdicts[STEYRBUNK_VERDICTS];
+    return steyrbunk_corners_in(
+        image, image_len, width, height, settings, workspace, workspace_len, list, list_len, count, verdicts);
+}
+
+/* The floor of a map: what a candidate's value must be above. */
+static inline float steyrbunk_floor(const float *response, size_t pixels, float threshold_rel) {
+    float greatest = 0;
+    for (size_t at = 0; at < pixels; at++) greatest = greatest < response[at] ? response[at] : greatest;
+    return threshold_rel * greatest;
+}
+
+/* The same of the map that steyrbunk_corners_in left in a workspace, with an answer of 0 or 1. */
+static inline float steyrbunk_floor_in(
+    void *workspace, size_t workspace_len, size_t width, size_t height, const steyrbunk_settings *settings) {
+    size_t entries = steyrbunk_lent(workspace_len, width, height, settings);
+    return steyrbunk_floor(steyrbunk_apart(workspace, entries).response, entries, settings->threshold_rel);
+}
+
+/* The verdict on a pixel of that map, in working pixels, with its floor. */
+static inline uint32_t steyrbunk_verdict_in(
+    void *workspace, size_t workspace_len, size_t width, size_t height, const steyrbunk_settings *settings,
+    float floor, size_t x, size_t y) {
+    size_t entries = steyrbunk_lent(workspace_len, width, height, settings);
+    steyrbunk_parts in = steyrbunk_apart(workspace, entries);
+    return steyrbunk_verdict(
+        in.response, entries, in.working, entries, steyrbunk_working_side(width, settings),
+        steyrbunk_working_side(height, settings), settings->ray_radius, settings->nms_radius,
+        settings->min_cluster_size, floor, x, y);
 }
 
 /* A number of a frame file, the highest of its bytes first. */
@@ -151,14 +203,14 @@ static inline size_t steyrbunk_entries(size_t workspace_len) {
     return workspace_len / 100 * 4 + (rest < 4 ? 0 : (rest - 4) / 24);
 }
 
-/* All cameras of an arch. The arguments are those of steyrbunk_arch, but for the workspace, which is aligned as
- * for steyrbunk_find_in: a camera for which it is too short is told 9 and stops nobody. */
+/* All cameras of an arch. The arguments are those of steyrbunk_run_arch, but for the workspace, which is aligned as
+ * for steyrbunk_corners_in: a camera for which it is too short is told 9 and stops nobody. */
 static inline uint32_t steyrbunk_arch_in(
     size_t cameras, const uint8_t *frames, size_t frames_len, void *workspace, size_t workspace_len,
     float *list, size_t list_len, steyrbunk_camera told[8]) {
     size_t n = steyrbunk_entries(workspace_len);
     steyrbunk_parts in = steyrbunk_apart(workspace, n);
-    return steyrbunk_arch(
+    return steyrbunk_run_arch(
         cameras, frames, frames_len, in.working, n, in.row, n, in.col, n, in.falling, n, in.rising, n,
         in.response, n, in.scratch, n, list, list_len, told);
 }
@@ -168,7 +220,7 @@ static inline const float *steyrbunk_share(const float *list, size_t list_len, s
     return list + i * (list_len / 3 / cameras * 3);
 }
 
-/* The record of the corners that steyrbunk_find_in listed for an image of these sides, with answer 0: after answer 1 the list
+/* The record of the corners that steyrbunk_corners_in listed for an image of these sides, with answer 0: after answer 1 the list
  * holds fewer than count. out needs STEYRBUNK_RECORD_BYTES(count) bytes. Answers 0, 18, 19 and 20, as steyrbunk_write_record. */
 static inline uint32_t steyrbunk_keep(
     size_t width, size_t height, const steyrbunk_settings *settings, const float *list, size_t count,
@@ -210,6 +262,19 @@ static inline const char *steyrbunk_words(uint32_t answer) {
     case 20: return "the output is too short";
     case 21: return "the camera count is not 2 to 8, or the list has less than one corner a camera";
     default: return "an answer that this header does not know";
+    }
+}
+
+/* What a verdict means. */
+static inline const char *steyrbunk_verdict_words(size_t verdict) {
+    switch (verdict) {
+    case STEYRBUNK_NOT_ABOVE: return "not above the floor";
+    case STEYRBUNK_BEATEN: return "beaten by a neighbour";
+    case STEYRBUNK_TOO_FEW: return "too few positive neighbours";
+    case STEYRBUNK_TOO_FLAT: return "too flat";
+    case STEYRBUNK_WRONG_CURVATURE: return "wrong curvature";
+    case STEYRBUNK_KEPT: return "kept";
+    default: return "a verdict that this header does not know";
     }
 }
 

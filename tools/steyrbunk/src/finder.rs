@@ -5,6 +5,7 @@ use crate::frame::Frame;
 use crate::lent::{self, Answer, Image, View};
 use crate::refusal::Refusal;
 use crate::settings::Settings;
+use crate::verdict::{Candidates, Verdicts};
 
 /// Corners that a new list has room for; it grows when a frame has more.
 const FIRST_ROOM: usize = 1_024;
@@ -24,12 +25,14 @@ impl Corner {
     }
 }
 
-/// All corners of a frame in row order, and the working sizes.
+/// All corners of a frame in row order, the working sizes, and what became of the candidates.
 #[derive(Clone, Debug, PartialEq)]
 pub struct Found {
     pub corners: Vec<Corner>,
     pub width: usize,
     pub height: usize,
+    /// Nothing where the corners were read from a record, which does not keep them.
+    pub verdicts: Option<Verdicts>,
 }
 
 /// Everything behind a list, at working resolution, row after row; the slices are the finder's own.
@@ -64,6 +67,9 @@ pub struct Finder {
     buffers: Buffers,
     list: Vec<f32>,
     last: Sizes,
+    /// With what the last image was searched, if it was.
+    searched: Option<Settings>,
+    told: Verdicts,
 }
 
 /// Working sizes of the last image, and whether its map was blurred.
@@ -150,7 +156,7 @@ fn file_pixels(file: &[u8]) -> usize {
 }
 
 /// The first corners of a list.
-fn corners(list: &[f32], count: usize) -> Vec<Corner> {
+pub(crate) fn corners(list: &[f32], count: usize) -> Vec<Corner> {
     let corner = |place: &[f32]| Corner {
         x: place[0],
         y: place[1],
@@ -160,11 +166,12 @@ fn corners(list: &[f32], count: usize) -> Vec<Corner> {
 }
 
 /// What was found, with an answer that is no refusal and whose corners all fit.
-pub(crate) fn found(list: &[f32], answer: Answer) -> Found {
+fn found(list: &[f32], answer: Answer) -> Found {
     Found {
         corners: corners(list, answer.count),
         width: answer.width,
         height: answer.height,
+        verdicts: Some(answer.verdicts),
     }
 }
 
@@ -184,11 +191,12 @@ fn by_camera(told: &[Answer], list: &[f32]) -> Vec<Result<Found, Refusal>> {
 }
 
 /// All corners of a map, in a list that grows until they fit.
-fn listed(list: &mut Vec<f32>, view: View, settings: &Settings) -> Result<Vec<Corner>, Refusal> {
+fn listed(list: &mut Vec<f32>, view: View, settings: &Settings) -> Result<Found, Refusal> {
     loop {
-        let answer = lent::peaks(view, settings, list).accepted()?;
+        let mut answer = lent::peaks(view, settings, list).accepted()?;
+        (answer.width, answer.height) = (view.width, view.height);
         if answer.number != Answer::LIST_FULL {
-            return Ok(corners(list, answer.count));
+            return Ok(found(list, answer));
         }
         grow(list, 3 * answer.count);
     }
@@ -203,20 +211,17 @@ impl Finder {
     pub fn find(&mut self, image: Image, settings: &Settings) -> Result<Found, Refusal> {
         self.prepare(image, settings);
         grow(&mut self.list, 3 * FIRST_ROOM);
-        let answer = lent::find(image, settings, self.buffers.lend(), &mut self.list).accepted()?;
+        let answer = lent::find(image, settings, self.buffers.lend(), &mut self.list);
+        self.told = answer.verdicts;
+        let answer = answer.accepted()?;
         self.keep(answer, settings);
-        let corners = if answer.number == Answer::LIST_FULL {
+        self.searched = Some(*settings);
+        if answer.number == Answer::LIST_FULL {
             // The map stands already; only the list is made again.
             grow(&mut self.list, 3 * answer.count);
-            listed(&mut self.list, self.buffers.map(self.last).view(), settings)?
-        } else {
-            corners(&self.list, answer.count)
-        };
-        Ok(Found {
-            corners,
-            width: answer.width,
-            height: answer.height,
-        })
+            return listed(&mut self.list, self.buffers.map(self.last).view(), settings);
+        }
+        Ok(found(&self.list, answer))
     }
 
     /// What each camera of an arch found, or why it was refused; `frames` has their frame files end to end. 21 where
@@ -226,7 +231,7 @@ impl Finder {
         cameras: usize,
         frames: &[u8],
     ) -> Result<Vec<Result<Found, Refusal>>, Refusal> {
-        self.last = Sizes::default();
+        self.forget();
         let pixels = whole(frames).take(MOST).map(file_pixels).max();
         self.buffers.grow(pixels.unwrap_or(0));
         grow(&mut self.list, 3 * FIRST_ROOM * MOST);
@@ -249,7 +254,7 @@ impl Finder {
     }
 
     /// The list of any map and working image.
-    pub fn peaks(&mut self, view: View, settings: &Settings) -> Result<Vec<Corner>, Refusal> {
+    pub fn peaks(&mut self, view: View, settings: &Settings) -> Result<Found, Refusal> {
         grow(&mut self.list, 3 * FIRST_ROOM);
         listed(&mut self.list, view, settings)
     }
@@ -259,13 +264,30 @@ impl Finder {
         self.buffers.map(self.last)
     }
 
+    /// What became of the candidates of the last image: six zeros if it was refused, and after an arch or a map alone.
+    pub fn verdicts(&self) -> Verdicts {
+        self.told
+    }
+
+    /// The same candidates one by one, for a drawing; none if the last image was refused, and after an arch or a map alone.
+    pub fn candidates(&self) -> Option<Candidates<'_>> {
+        let settings = self.searched.as_ref()?;
+        Some(Candidates::new(self.map().view(), settings))
+    }
+
     /// The buffers of the last image, for a pass of the caller's own.
     pub fn lend(&mut self) -> lent::Buffers<'_> {
         self.buffers.lend()
     }
 
-    fn prepare(&mut self, image: Image, settings: &Settings) {
+    fn forget(&mut self) {
         self.last = Sizes::default();
+        self.searched = None;
+        self.told = Verdicts::NONE;
+    }
+
+    fn prepare(&mut self, image: Image, settings: &Settings) {
+        self.forget();
         self.buffers.grow(working_pixels(image, settings.factor()));
     }
 

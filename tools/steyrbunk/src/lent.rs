@@ -4,6 +4,7 @@ use crate::arch;
 use crate::raw;
 use crate::refusal::Refusal;
 use crate::settings::Settings;
+use crate::verdict::Verdicts;
 
 /// Eight-bit pixels, row after row.
 #[derive(Clone, Copy, Debug)]
@@ -33,13 +34,15 @@ pub struct View<'a> {
     pub height: usize,
 }
 
-/// The documents' number, the corners found, and the working sizes; the last three are 0 with a refusal.
+/// The documents' number, the corners found, the working sizes, and how many candidates have each verdict; all but the number are 0
+/// with a refusal, and the verdicts too where no list is made of a map.
 #[derive(Clone, Copy, Debug, Default, PartialEq, Eq)]
 pub struct Answer {
     pub number: u32,
     pub count: usize,
     pub width: usize,
     pub height: usize,
+    pub verdicts: Verdicts,
 }
 
 impl Answer {
@@ -73,15 +76,16 @@ impl ArchAnswer {
     }
 }
 
-/// What count and sizes hold before a call: the library writes them with every answer, so this is never seen.
+/// What the numbers hold before a call: the library writes them with every answer, so this is never seen.
 const UNWRITTEN: usize = usize::MAX;
 
-/// An answer before the library has told it.
+/// An answer without verdicts before the library has told it.
 const UNTOLD: Answer = Answer {
     number: 0,
     count: UNWRITTEN,
     width: UNWRITTEN,
     height: UNWRITTEN,
+    verdicts: Verdicts::NONE,
 };
 
 /// An entry that takes the buffers; what else it takes stands before them and behind.
@@ -153,8 +157,9 @@ pub fn find_by(
     list: &mut [f32],
 ) -> Answer {
     let (mut count, mut width, mut height) = (UNWRITTEN, UNWRITTEN, UNWRITTEN);
+    let mut verdicts = [UNWRITTEN; 6];
     let number = image_call!(
-        steyrbunk_find,
+        steyrbunk_corners,
         image,
         settings,
         [
@@ -169,7 +174,8 @@ pub fn find_by(
             list.len(),
             &mut count,
             &mut width,
-            &mut height
+            &mut height,
+            verdicts.as_mut_ptr()
         ]
     );
     Answer {
@@ -177,6 +183,7 @@ pub fn find_by(
         count,
         width,
         height,
+        verdicts: verdicts.into(),
     }
 }
 
@@ -188,9 +195,10 @@ pub fn arch(cameras: usize, frames: &[u8], lent: Buffers, list: &mut [f32]) -> A
         count: UNWRITTEN,
         w: UNWRITTEN,
         h: UNWRITTEN,
+        verdicts: [UNWRITTEN; 6],
     }; arch::MOST];
     let number = call!(
-        steyrbunk_arch,
+        steyrbunk_run_arch,
         [cameras, frames.as_ptr(), frames.len()],
         lent,
         [list.as_mut_ptr(), list.len(), told.as_mut_ptr()]
@@ -202,6 +210,7 @@ pub fn arch(cameras: usize, frames: &[u8], lent: Buffers, list: &mut [f32]) -> A
             count: camera.count,
             width: camera.w,
             height: camera.h,
+            verdicts: camera.verdicts.into(),
         }),
     }
 }
@@ -219,9 +228,9 @@ pub fn response(image: Image, settings: &Settings, lent: Buffers) -> Answer {
     );
     Answer {
         number,
-        count: 0,
         width,
         height,
+        ..Answer::default()
     }
 }
 
@@ -231,9 +240,10 @@ pub fn peaks(view: View, settings: &Settings, list: &mut [f32]) -> Answer {
         count: UNWRITTEN,
         ..Answer::default()
     };
+    let mut verdicts = [UNWRITTEN; 6];
     // SAFETY: as above.
     answer.number = unsafe {
-        raw::steyrbunk_peaks(
+        raw::steyrbunk_detect_peaks(
             view.response.as_ptr(),
             view.response.len(),
             view.working.as_ptr(),
@@ -250,9 +260,33 @@ pub fn peaks(view: View, settings: &Settings, list: &mut [f32]) -> Answer {
             list.as_mut_ptr(),
             list.len(),
             &mut answer.count,
+            verdicts.as_mut_ptr(),
         )
     };
+    answer.verdicts = verdicts.into();
     answer
+}
+
+/// The number of the verdict on one working pixel, by a floor that is the threshold times the map's greatest value from 0 up.
+/// [`Candidates`](crate::Candidates) takes that floor once for all of a map.
+pub fn verdict(view: View, settings: &Settings, floor: f32, x: usize, y: usize) -> u32 {
+    // SAFETY: as above.
+    unsafe {
+        raw::steyrbunk_verdict(
+            view.response.as_ptr(),
+            view.response.len(),
+            view.working.as_ptr(),
+            view.working.len(),
+            view.width,
+            view.height,
+            settings.ray_radius,
+            settings.nms_radius,
+            settings.min_cluster_size,
+            floor,
+            x,
+            y,
+        )
+    }
 }
 
 /// The record of a list, cut to whole corners, at the beginning of `out`; the sizes are the working image's.

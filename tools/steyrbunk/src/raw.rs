@@ -1,4 +1,5 @@
-//! The C interface of the static library, argument for argument as in `include/steyrbunk.h`.
+//! The C interface of the static library, argument for argument as in `include/steyrbunk.h`. An entry that tells more than it did has a
+//! new name there, so that what was built for the old one does not link.
 
 /// An entry that takes the buffers; what else it takes stands before them and behind.
 macro_rules! entry {
@@ -36,9 +37,10 @@ macro_rules! image_entry {
     };
 }
 
-image_entry!(steyrbunk_find(
+// Six verdicts are told, here and below.
+image_entry!(steyrbunk_corners(
     peak_fit: u32, threshold_rel: f32, nms_radius: u32, min_cluster_size: u32;
-    list: *mut f32, list_len: usize, count: *mut usize, w: *mut usize, h: *mut usize));
+    list: *mut f32, list_len: usize, count: *mut usize, w: *mut usize, h: *mut usize, verdicts: *mut usize));
 
 image_entry!(steyrbunk_response(; w: *mut usize, h: *mut usize));
 
@@ -50,15 +52,16 @@ pub struct Camera {
     pub count: usize,
     pub w: usize,
     pub h: usize,
+    pub verdicts: [usize; 6],
 }
 
 // Eight cameras are told, however many there are.
-entry!(steyrbunk_arch(
+entry!(steyrbunk_run_arch(
     cameras: usize, frames: *const u8, frames_len: usize;
     list: *mut f32, list_len: usize, told: *mut Camera));
 
 extern "C" {
-    pub fn steyrbunk_peaks(
+    pub fn steyrbunk_detect_peaks(
         response: *const f32,
         response_len: usize,
         image: *const u8,
@@ -75,6 +78,22 @@ extern "C" {
         list: *mut f32,
         list_len: usize,
         count: *mut usize,
+        verdicts: *mut usize,
+    ) -> u32;
+
+    pub fn steyrbunk_verdict(
+        response: *const f32,
+        response_len: usize,
+        image: *const u8,
+        image_len: usize,
+        w: usize,
+        h: usize,
+        ray_radius: u32,
+        nms_radius: u32,
+        min_cluster_size: u32,
+        floor: f32,
+        x: usize,
+        y: usize,
     ) -> u32;
 
     pub fn steyrbunk_write_record(

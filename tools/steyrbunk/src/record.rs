@@ -2,7 +2,7 @@
 //!
 //! [`bytes`] and [`parse`] own what they give; [`lent::write_record`] and [`lent::read_record`] are beneath them.
 
-use crate::finder::{found, Corner, Found};
+use crate::finder::{corners, Corner, Found};
 use crate::lent;
 use crate::refusal::Refusal;
 
@@ -29,13 +29,18 @@ pub fn bytes(found: &Found) -> Result<Vec<u8>, Refusal> {
     Ok(record)
 }
 
-/// The corners and sizes of a record, or 16 to 19.
+/// The corners and sizes of a record, or 16 to 19. It has no verdicts.
 pub fn parse(record: &[u8]) -> Result<Found, Refusal> {
     // A record that is taken has as many corners as its length says, so the list is never too short.
     let room = record.len().saturating_sub(HEAD) / CORNER;
     let mut list = vec![0.0; 3 * room.min(limits::RECORD_CORNERS)];
     let answer = lent::read_record(record, &mut list).accepted()?;
-    Ok(found(&list, answer))
+    Ok(Found {
+        corners: corners(&list, answer.count),
+        width: answer.width,
+        height: answer.height,
+        verdicts: None,
+    })
 }
 
 fn numbers(corner: &Corner) -> [f32; 3] {

@@ -12,7 +12,7 @@ use judge::{document_frame, dues, made, Kind, Sizes};
 use steyrbunk::arch::{self, join};
 use steyrbunk::frame::Frame;
 use steyrbunk::lent::{self, Answer, ArchAnswer, Buffers};
-use steyrbunk::{raw, Corner, Finder, Found, Refusal};
+use steyrbunk::{raw, Corner, Finder, Found, Refusal, Verdicts};
 
 /// Seeded arches of each test that takes them.
 const ARCHES: u64 = 6_000;
@@ -266,12 +266,17 @@ fn old_contents_and_bytes_behind() {
     }
 }
 
-/// A camera of document 01's frame: one corner.
+/// A camera of document 01's frame: one corner, of one candidate.
 const ONE: Answer = Answer {
     number: 0,
     count: 1,
     width: 7,
     height: 7,
+    verdicts: KEPT,
+};
+const KEPT: Verdicts = Verdicts {
+    kept: 1,
+    ..Verdicts::NONE
 };
 const CORNER: [u32; 3] = [0x4040_0000, 0x4040_0000, 0x481C_4000];
 
@@ -382,6 +387,10 @@ fn cropped_cameras() {
     let searched = |width, height| Answer {
         width,
         height,
+        verdicts: Verdicts {
+            not_above: (width - 18) * (height - 18),
+            ..Verdicts::NONE
+        },
         ..Answer::default()
     };
     let (told, _) = holds(4, &frames, &Lent::old(440, 60, 0x5A));
@@ -479,9 +488,10 @@ fn every_small_list() {
                 let size = length / 3 / cameras * 3;
                 let (full, all) = (Answer::LIST_FULL, Answer::COMPLETE);
                 let number = if size / 3 < count { full } else { all };
-                assert!(told.cameras[..cameras]
-                    .iter()
-                    .all(|camera| (camera.number, camera.count) == (number, count)));
+                for camera in &told.cameras[..cameras] {
+                    assert_eq!((camera.number, camera.count), (number, count));
+                    assert_eq!(camera.verdicts.kept, count);
+                }
                 for i in 0..cameras {
                     assert_eq!(arch::share(length, cameras, i), i * size..(i + 1) * size);
                     assert_eq!(left.list[i * size..][..size], left.list[..size]);
@@ -665,10 +675,11 @@ fn with_bytes_behind(cameras: usize, frames: &[u8], b: Buffers, list: &mut [f32]
         count: 99,
         w: 99,
         h: 99,
+        verdicts: [99; 6],
     }; 8];
     // SAFETY: as in the wrapper, but for the end of the frames, which are to be left alone.
     let answer = unsafe {
-        raw::steyrbunk_arch(
+        raw::steyrbunk_run_arch(
             cameras,
             frames.as_ptr(),
             frames.len() + edge::HALF,
@@ -707,6 +718,7 @@ fn document_frames() {
         corners: vec![corner],
         width: 7,
         height: 7,
+        verdicts: Some(KEPT),
     };
     let frame = document_frame();
     let frames = join(&[

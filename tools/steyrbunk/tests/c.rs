@@ -10,7 +10,7 @@ use std::{env, fs};
 
 use common::{frame, image};
 use judge::{Frame, Kind};
-use steyrbunk::{arch, limits, record, Finder, PeakFit, Refusal, Settings};
+use steyrbunk::{arch, limits, record, Finder, PeakFit, Refusal, Settings, Verdict, Verdicts};
 
 /// The example as a program.
 fn compiled(name: &str) -> Option<PathBuf> {
@@ -100,6 +100,7 @@ fn the_example() {
         assert_eq!(bits, corner.bits());
     }
     assert_eq!(lines.next(), None);
+    assert_eq!(output.stderr, counted(found.verdicts.expect("searched")));
     assert!(output.status.success());
 
     let mut cut = pgm(&board);
@@ -158,10 +159,44 @@ fn the_example() {
         .parse()
         .expect("a number");
     assert!(first > 4096 && text.lines().count() == 1 + 4096, "{first}");
-    assert_eq!(
-        output.stderr,
-        b"the list is cut: there is room for 4096 corners\n"
-    );
+    let mut lines = output.stderr.split_inclusive(|byte| *byte == b'\n');
+    let cut = lines.next().expect("a line");
+    assert_eq!(cut, b"the list is cut: there is room for 4096 corners\n");
+    // All that were found are kept, though the list has no room for them.
+    let kept = format!("{first} kept\n");
+    assert_eq!(lines.next_back(), Some(kept.as_bytes()));
+}
+
+/// What the example says of the candidates.
+fn counted(verdicts: Verdicts) -> Vec<u8> {
+    let line = |verdict: Verdict| format!("{} {}\n", verdicts.of(verdict), verdict.words());
+    Verdict::ALL.map(line).concat().into_bytes()
+}
+
+/// What was built for a function that told less must not link, lest it be written through a pointer that it never passed.
+#[test]
+fn old_names_do_not_link() {
+    let linked = |name: &str| {
+        let file = Path::new(env!("CARGO_TARGET_TMPDIR")).join(format!("{name}.c"));
+        let text = format!("void {name}(void); int main(void) {{ {name}(); return 0; }}\n");
+        fs::write(&file, text).expect("written");
+        let mut cc = Command::new(env::var("CC").unwrap_or("cc".to_string()));
+        let cc = cc.arg(&file).arg(env!("STEYRBUNK_ARCHIVE"));
+        let output = cc.args(["-lm", "-o"]).arg(file.with_extension("out"));
+        output.output().ok().map(|output| output.status.success())
+    };
+    if linked("steyrbunk_corners").is_none() {
+        eprintln!("no C compiler: skipped");
+        return;
+    }
+    for (old, new) in [
+        ("find", "corners"),
+        ("peaks", "detect_peaks"),
+        ("arch", "run_arch"),
+    ] {
+        assert_eq!(linked(&format!("steyrbunk_{new}")), Some(true), "{new}");
+        assert_eq!(linked(&format!("steyrbunk_{old}")), Some(false), "{old}");
+    }
 }
 
 /// Every answer through the header's easy calls, over workspaces of every length about the right one.
@@ -199,6 +234,30 @@ fn the_words() {
         assert!(header.contains(&in_c), "{in_c}");
         assert!(python.contains(&in_python), "{in_python}");
     }
+}
+
+/// C and Python have the six in the wrapper's order, by its names, and C by its words.
+#[test]
+fn the_verdicts() {
+    let (header, easy, python) = (
+        read("include/steyrbunk.h"),
+        read("include/steyrbunk_easy.h"),
+        read("../../python/steyrbunk.py"),
+    );
+    for verdict in Verdict::ALL {
+        let (name, number) = (verdict.name().to_uppercase(), verdict.number());
+        let place = format!("    STEYRBUNK_{name} = {number},");
+        assert!(header.contains(&place), "{place}");
+        let words = format!("case STEYRBUNK_{name}: return \"{}\";", verdict.words());
+        assert!(easy.contains(&words), "{words}");
+    }
+    let all = format!("    STEYRBUNK_VERDICTS = {} ", Verdict::ALL.len());
+    assert!(header.contains(&all), "{all}");
+    let names = Verdict::ALL.map(Verdict::name).join(" ");
+    let fields = format!("namedtuple(\"Verdicts\", \"{names}\"");
+    assert!(python.contains(&fields), "{fields}");
+    let version = format!("\n__version__ = \"{}\"\n", env!("CARGO_PKG_VERSION"));
+    assert!(python.contains(&version), "{version}");
 }
 
 /// Python over a shared library that the documented line builds.
@@ -256,10 +315,11 @@ fn read(name: &str) -> String {
 fn the_header_and_the_declarations() {
     let (header, raw) = (read("include/steyrbunk.h"), read("src/raw.rs"));
     for name in [
-        "find",
+        "corners",
         "response",
-        "peaks",
-        "arch",
+        "detect_peaks",
+        "verdict",
+        "run_arch",
         "write_record",
         "read_record",
     ] {

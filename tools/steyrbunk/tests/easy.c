@@ -1,5 +1,5 @@
 /* Every answer through steyrbunk_easy.h: workspaces, records and arches of the right length and one byte less, and what they
- * held before. */
+ * held before; the six verdicts with each, and of each pixel. */
 #include <stdio.h>
 #include <stdlib.h>
 #include <string.h>
@@ -17,6 +17,40 @@ static void check(int holds, const char *what) {
 
 static uint8_t frame[49];
 
+static int are(const size_t *verdicts, size_t not_above, size_t beaten, size_t too_few, size_t too_flat, size_t wrong, size_t kept) {
+    const size_t expected[STEYRBUNK_VERDICTS] = {not_above, beaten, too_few, too_flat, wrong, kept};
+    return memcmp(verdicts, expected, sizeof expected) == 0;
+}
+
+static int are_zero(const size_t *verdicts) {
+    return are(verdicts, 0, 0, 0, 0, 0, 0);
+}
+
+/* The six between two numbers that must stay. */
+static size_t told_six[STEYRBUNK_VERDICTS + 2], *const verdicts = told_six + 1;
+
+/* The verdicts of all candidates, one by one, are the six; what is no candidate of the map has a verdict too. */
+static void one_by_one(void *workspace, size_t bytes, size_t width, size_t height, const steyrbunk_settings *settings) {
+    size_t counts[STEYRBUNK_VERDICTS] = {0}, border = steyrbunk_border(settings), total = 0;
+    size_t w = steyrbunk_working_side(width, settings), h = steyrbunk_working_side(height, settings);
+    float floor = steyrbunk_floor_in(workspace, bytes, width, height, settings);
+    for (size_t y = border; y < h - border; y++)
+        for (size_t x = border; x < w - border; x++) {
+            uint32_t verdict = steyrbunk_verdict_in(workspace, bytes, width, height, settings, floor, x, y);
+            check(verdict < STEYRBUNK_VERDICTS, "a verdict");
+            counts[verdict % STEYRBUNK_VERDICTS]++;
+        }
+    check(memcmp(counts, verdicts, sizeof counts) == 0, "the verdicts one by one");
+    for (size_t at = 0; at < STEYRBUNK_VERDICTS; at++) total += verdicts[at];
+    check(total == (w - 2 * border) * (h - 2 * border), "all candidates");
+    size_t far[4] = {0, w - 1, w, (size_t)-1};
+    for (size_t at = 0; at < 4; at++)
+        check(steyrbunk_verdict_in(workspace, bytes, width, height, settings, floor, far[at], h / 2) == STEYRBUNK_NOT_ABOVE
+            || settings->nms_radius == 0, "a window that is not in the map");
+    size_t less = steyrbunk_workspace(width, height, settings) - 1;
+    check(steyrbunk_verdict_in(workspace, less, width, height, settings, floor, w / 2, h / 2) == STEYRBUNK_NOT_ABOVE, "no map");
+}
+
 /* Document 01's frame and settings, in a workspace of so many bytes more or less than it needs, filled with `fill`. */
 static uint32_t find(steyrbunk_settings settings, size_t width, size_t height, size_t len, long more, int fill, size_t *count, float *list) {
     size_t bytes = steyrbunk_workspace(width, height, &settings) + (size_t)more;
@@ -24,11 +58,20 @@ static uint32_t find(steyrbunk_settings settings, size_t width, size_t height, s
     memset(workspace, fill, bytes);
     memcpy(before, workspace, bytes);
     *count = 99;
-    uint32_t answer = steyrbunk_find_in(frame, len, width, height, &settings, workspace, bytes, list, 6, count);
+    for (size_t at = 0; at < STEYRBUNK_VERDICTS + 2; at++) told_six[at] = 99;
+    uint32_t answer = steyrbunk_corners_in(frame, len, width, height, &settings, workspace, bytes, list, 6, count, verdicts);
     if (answer > 1) {
         check(memcmp(workspace, before, bytes) == 0, "a refusal changed the workspace");
         check(*count == 0, "a refusal has a count");
+        check(are_zero(verdicts), "a refusal has verdicts");
+    } else {
+        one_by_one(workspace, bytes, width, height, &settings);
+        check(verdicts[STEYRBUNK_KEPT] == *count, "kept is the count");
     }
+    check(told_six[0] == 99 && verdicts[STEYRBUNK_VERDICTS] == 99, "six are told, and no more");
+    size_t counted = 99;
+    check(steyrbunk_find_in(frame, len, width, height, &settings, workspace, bytes, list, 6, &counted) == answer, "without the six");
+    check(counted == *count, "without the six, the count");
     free(workspace), free(before);
     return answer;
 }
@@ -59,9 +102,10 @@ static void small(const steyrbunk_settings *settings) {
     check(steyrbunk_response(
         frame, 42, 6, 7, 1, 1, 0, working, 42, row, 42, col, 42, falling, 42, rising, 42, response, 42, scratch, 42, &w, &h) == 0
         && w == 6 && h == 7 && memcmp(working, frame, 42) == 0, "the map of an image that is too small for a list");
-    check(steyrbunk_peaks(
-        response, 42, working, 42, 6, 7, 1, 1, 0, STEYRBUNK_PARABOLIC, 0.28f, 1, 2, list, 6, &count) == 15
-        && count == 0, "15 of the list's own entry");
+    verdicts[0] = verdicts[5] = 99;
+    check(steyrbunk_detect_peaks(
+        response, 42, working, 42, 6, 7, 1, 1, 0, STEYRBUNK_PARABOLIC, 0.28f, 1, 2, list, 6, &count, verdicts) == 15
+        && count == 0 && are_zero(verdicts), "15 of the list's own entry");
     check(steyrbunk_response(
         NULL, 0, 0, 9, 1, 2, 0, NULL, 0, NULL, 0, NULL, 0, NULL, 0, NULL, 0, NULL, 0, NULL, 0, &w, &h) == 0
         && w == 0 && h == 18, "the map of no pixels");
@@ -107,8 +151,10 @@ static void records(const steyrbunk_settings *settings) {
     free(record), free(shorter), free(back);
 }
 
+/* A camera that was refused has six zeros; document 01's frame has its one candidate, which is kept. */
 static int told_is(const steyrbunk_camera *camera, size_t answer, size_t count, size_t side) {
-    return camera->answer == answer && camera->count == count && camera->w == side && camera->h == side;
+    return camera->answer == answer && camera->count == count && camera->w == side && camera->h == side
+        && are(camera->verdicts, 0, 0, 0, 0, 0, count);
 }
 
 /* Document 01's frame as the files of so many cameras, in memory that ends where they do. */
@@ -131,6 +177,41 @@ static uint32_t arch(size_t cameras, const uint8_t *frames, size_t len, size_t b
     check(!same || memcmp(workspace, before, bytes) == 0, "a refused arch changed the workspace");
     free(workspace), free(before);
     return answer;
+}
+
+/* Document 01's saddle, which is in the middle of its one candidate, moved so far to the right; an edge; one pixel of another grey. */
+static void moved(int right) {
+    for (int at = 0; at < 49; at++) {
+        int side = (at % 7 - 3 - right) * (at / 7 - 3);
+        frame[at] = side > 0 ? 200 : side < 0 ? 0 : 100;
+    }
+}
+
+static void edge(void) {
+    for (int at = 0; at < 49; at++) frame[at] = at % 7 < 3 ? 0 : 200;
+}
+
+static void speck(void) {
+    memset(frame, 100, 49), frame[4 * 7 + 4] = 101;
+}
+
+/* Each of the six, of a frame that has one candidate. */
+static void each_verdict(const steyrbunk_settings *settings) {
+    steyrbunk_settings usual = *settings, all = usual, none = usual, eight = usual, nine = usual;
+    float list[6];
+    size_t count;
+    all.threshold_rel = 0, none.threshold_rel = 1, eight.min_cluster_size = 8, nine.min_cluster_size = 9;
+    check(find(none, 7, 7, 49, 0, 1, &count, list) == 0 && are(verdicts, 1, 0, 0, 0, 0, 0), "not above the floor");
+    check(find(eight, 7, 7, 49, 0, 1, &count, list) == 0 && are(verdicts, 0, 0, 0, 0, 0, 1), "enough positive neighbours");
+    check(find(nine, 7, 7, 49, 0, 1, &count, list) == 0 && are(verdicts, 0, 0, 1, 0, 0, 0), "too few positive neighbours");
+    moved(1);
+    check(find(usual, 7, 7, 49, 0, 1, &count, list) == 0 && are(verdicts, 1, 0, 0, 0, 0, 0), "not above a greater one's floor");
+    check(find(all, 7, 7, 49, 0, 1, &count, list) == 0 && are(verdicts, 0, 1, 0, 0, 0, 0), "beaten by a neighbour");
+    edge();
+    check(find(usual, 7, 7, 49, 0, 1, &count, list) == 0 && are(verdicts, 0, 0, 0, 0, 1, 0), "wrong curvature");
+    speck();
+    check(find(usual, 7, 7, 49, 0, 1, &count, list) == 0 && are(verdicts, 0, 0, 0, 1, 0, 0), "too flat");
+    moved(0);
 }
 
 static void arches(void) {
@@ -188,10 +269,7 @@ static void arches(void) {
 }
 
 int main(void) {
-    for (int at = 0; at < 49; at++) {
-        int side = (at % 7 - 3) * (at / 7 - 3);
-        frame[at] = side > 0 ? 200 : side < 0 ? 0 : 100;
-    }
+    moved(0);
     steyrbunk_settings one = steyrbunk_defaults();
     check(one.ray_radius == 4 && one.image_upsample == 2 && one.response_blur_radius == 1 && one.peak_fit == 1, "defaults");
     check(one.threshold_rel == 0.28f && one.nms_radius == 4 && one.min_cluster_size == 2, "defaults");
@@ -205,7 +283,9 @@ int main(void) {
     for (int fill = 0; fill < 256; fill += 51) {
         check(find(one, 7, 7, 49, 0, fill, &count, list) == 0 && count == 1, "document 01's frame");
         check(list[0] == 3 && list[1] == 3 && list[2] == 160000 && list[3] == 7, "its corner");
+        check(are(verdicts, 0, 0, 0, 0, 0, 1), "its one candidate");
     }
+    each_verdict(&one);
     check(find(one, 7, 7, 49, 100, 1, &count, list) == 0, "a longer workspace");
     for (long less = 1; less <= 8; less++) check(find(one, 7, 7, 49, -less, 1, &count, list) == 9, "a shorter workspace");
     small(&one);
@@ -221,6 +301,8 @@ int main(void) {
     records(&one);
     arches();
     check(strcmp(steyrbunk_words(5), "the ray radius is over 7") == 0, "words");
+    check(strcmp(steyrbunk_verdict_words(STEYRBUNK_TOO_FLAT), "too flat") == 0, "words of a verdict");
+    check(strcmp(steyrbunk_verdict_words(6), steyrbunk_verdict_words(99)) == 0, "words of no verdict");
     check(strcmp(steyrbunk_words(99), steyrbunk_words(22)) == 0, "words of what is not known");
     check(strncmp(steyrbunk_words(15), "the frame is too small to judge: ", 33) == 0, "words of 15");
     if (!wrong) puts("all answers as they should be");

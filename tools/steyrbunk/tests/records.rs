@@ -92,6 +92,7 @@ fn taken(width: u16, height: u16, list: &[u32]) -> Answer {
         count: list.len() / 3,
         width: width.into(),
         height: height.into(),
+        ..Answer::default()
     }
 }
 
@@ -271,6 +272,7 @@ fn one_record_written_out() {
         }],
         width: 7,
         height: 258,
+        verdicts: None,
     };
     let expected = [
         1, 0, 0, 0, 20, 0, 7, 1, 2, 0, 0, 0, 1, 0x40, 0x40, 0, 0, 0x80, 0, 0, 0, 0x48, 0x1C, 0x40,
@@ -331,6 +333,7 @@ fn numbers_that_are_not_finite() {
                 corners: vec![corner(0), corner(1)],
                 width: 3,
                 height: 4,
+                verdicts: None,
             };
             assert_eq!(record::bytes(&found), Err(Refusal::NotFinite));
         }
@@ -498,6 +501,7 @@ fn the_greatest_record() {
         count: MOST,
         width: 8_192,
         height: 1_024,
+        ..Answer::default()
     };
     assert_eq!(answer, expected);
     assert_eq!(record[..13], [1, 6, 0, 0, 8, 0x20, 0, 4, 0, 0, 0x80, 0, 0]);
@@ -567,6 +571,8 @@ fn frames_are_kept() {
         );
         let bits = |found: &Found| found.corners.iter().map(Corner::bits).collect::<Vec<_>>();
         assert_eq!(bits(&back), bits(&found));
+        // A record does not keep what became of the candidates, and makes nothing up.
+        assert!(found.verdicts.is_some() && back.verdicts.is_none());
         corners += back.corners.len();
     }
     assert!(corners > 100, "{corners}");
@@ -578,6 +584,7 @@ fn sizes_that_no_record_has() {
         corners: Vec::new(),
         width,
         height,
+        verdicts: None,
     };
     assert!(record::bytes(&found(65_535, 65_535)).is_ok());
     for (width, height) in [(65_536, 0), (0, 65_536), (usize::MAX, usize::MAX)] {

@@ -1,12 +1,13 @@
-//! Numbered refusals leave everything as it was; old contents change nothing.
+//! Numbered refusals leave everything as it was and have six zeros; old contents change nothing.
 
 mod common;
 
 use common::{frame, image, Lent, DOCUMENT};
 use judge::{document_frame, mapped, Frame, Kind};
 use steyrbunk::lent::{self, Answer, Buffers, View};
-use steyrbunk::{arch, limits, Finder, Image, Refusal, Settings};
+use steyrbunk::{arch, limits, Finder, Image, Refusal, Settings, Verdicts};
 
+/// No count, no sizes, no verdicts.
 fn refused(number: u32) -> Answer {
     Answer {
         number,
@@ -14,12 +15,24 @@ fn refused(number: u32) -> Answer {
     }
 }
 
-/// Accepted, and without a corner.
-fn nothing(width: u16, height: u16) -> Answer {
+/// A map.
+fn sized(width: u16, height: u16) -> Answer {
     Answer {
         width: width.into(),
         height: height.into(),
         ..Answer::default()
+    }
+}
+
+/// A grey frame that was searched: nothing is above the floor.
+fn nothing(width: u16, height: u16, settings: &Settings) -> Answer {
+    let inside = |side: u16| usize::from(side) - 2 * settings.border();
+    Answer {
+        verdicts: Verdicts {
+            not_above: inside(width) * inside(height),
+            ..Verdicts::NONE
+        },
+        ..sized(width, height)
     }
 }
 
@@ -40,6 +53,8 @@ fn refuses(number: u32, map: bool, image: Image, settings: &Settings, lent: &Len
             Err(Refusal::from_number(number))
         );
         assert!(finder.map().response.is_empty());
+        assert_eq!(finder.verdicts(), Verdicts::NONE);
+        assert!(finder.candidates().is_none());
     }
 }
 
@@ -171,7 +186,8 @@ fn at_the_limits() {
         };
         let grey = frame(Kind::Flat, side, side);
         let mut lent = Lent::old(grey.pixels.len(), 3, 0);
-        assert_eq!(lent.find(image(&grey), &settings), nothing(side, side));
+        let answer = lent.find(image(&grey), &settings);
+        assert_eq!(answer, nothing(side, side, &settings));
     }
     for threshold_rel in [0.0, -0.0, 1.0, f32::MIN_POSITIVE] {
         let settings = Settings {
@@ -257,7 +273,7 @@ fn has_its_map(frame: &Frame) {
     let old = Lent::old(pixels + 3, 0, 0x5A);
     let mut lent = old.clone();
     let answer = lent.response(image(frame), &settings_of(frame));
-    assert_eq!(answer, nothing(map.w as u16, map.h as u16));
+    assert_eq!(answer, sized(map.w as u16, map.h as u16));
     let bits = |floats: Vec<f32>| floats.into_iter().map(f32::to_bits).collect();
     let mut expected = Lent {
         working: map.working,
@@ -290,20 +306,21 @@ fn frames_that_are_too_small() {
         (7, 32, 1, 81),
         (7, 32, 3, 41),
     ] {
-        let sized = |kind, width, height| Frame {
+        let framed = |kind, width, height| Frame {
             ray,
             suppression,
             upsampling,
             blur: ray % 4,
             ..frame(kind, width, height)
         };
-        let grey = sized(Kind::Flat, least, least);
+        let grey = framed(Kind::Flat, least, least);
         let settings = settings_of(&grey);
         assert_eq!(settings.least_side(), usize::from(least));
         let factor = settings.factor() as u16;
         let mut lent = Lent::old(grey.pixels.len() * usize::from(factor * factor), 30, 0x5A);
         let answer = lent.find(image(&grey), &settings);
-        assert_eq!(answer, nothing(factor * least, factor * least));
+        let side = factor * least;
+        assert_eq!(answer, nothing(side, side, &settings));
         let small = least - 1;
         for (width, height) in [
             (small, small),
@@ -319,7 +336,7 @@ fn frames_that_are_too_small() {
             (4_096, 0),
             (0, 4_096),
         ] {
-            let noise = sized(Kind::Random, width, height);
+            let noise = framed(Kind::Random, width, height);
             // Enough for the frame, and nothing: 15 comes before 9.
             for pixels in [4 * noise.pixels.len(), 0] {
                 let lent = Lent::old(pixels, 30, 0x5A);
@@ -437,7 +454,7 @@ fn a_full_list() {
     let board = frame(Kind::Board, 60, 50);
     let mut whole = Lent::old(3_000, 3_000, 0);
     let all = whole.find(image(&board), &DOCUMENT);
-    assert!(all.count > 3);
+    assert!(all.count > 3 && all.verdicts.kept == all.count);
     for length in [0, 1, 2, 3, 5, 9, 3 * all.count - 1, 3 * all.count] {
         let mut lent = Lent::old(3_000, length, 0x5A);
         let answer = lent.find(image(&board), &DOCUMENT);
@@ -468,7 +485,9 @@ fn the_lists_own_entry() {
     let asked = |view: View, settings: Settings| {
         let mut list = [0.5; 6];
         let answer = lent::peaks(view, &settings, &mut list);
-        assert!(answer.number == 0 || list == [0.5; 6]);
+        if answer.number != 0 {
+            assert_eq!((answer.verdicts, list), (Verdicts::NONE, [0.5; 6]));
+        }
         (answer.number, answer.count)
     };
     assert_eq!(asked(view, DOCUMENT), (0, 0));
@@ -538,18 +557,18 @@ fn the_lists_own_entry() {
         nms_radius: 2,
         ..DOCUMENT
     };
-    let sized = |width, height| View {
+    let sides = |width, height| View {
         width,
         height,
         ..view
     };
     for (small, settings) in [
         (view, wide),
-        (sized(6, 7), DOCUMENT),
-        (sized(7, 6), DOCUMENT),
-        (sized(8_192, 6), DOCUMENT),
-        (sized(8_192, 0), DOCUMENT),
-        (sized(0, 0), DOCUMENT),
+        (sides(6, 7), DOCUMENT),
+        (sides(7, 6), DOCUMENT),
+        (sides(8_192, 6), DOCUMENT),
+        (sides(8_192, 0), DOCUMENT),
+        (sides(0, 0), DOCUMENT),
     ] {
         assert_eq!(asked(small, settings), (15, 0));
         let nan = Settings {

@@ -126,5 +126,5 @@ fn three_entries() {
     assert_eq!(map.response, whole.map().response);
     assert_eq!(map.blur_scratch, whole.map().blur_scratch);
     let list = Finder::new().peaks(map.view(), &settings).expect("a list");
-    assert_eq!(list, found.corners);
+    assert_eq!(list, found);
 }
