@@ -2,6 +2,8 @@
 
 use std::fmt;
 
+use steyrbunk::Verdict;
+
 /// A buffer or a number of a corner.
 #[derive(Clone, Copy, Debug, PartialEq, Eq)]
 pub enum What {
@@ -72,6 +74,12 @@ pub enum Difference {
         theirs: usize,
         ours: usize,
     },
+    /// How many candidates have a verdict, by the judge's reading of the documents; the Rust counts none.
+    Verdict {
+        verdict: Verdict,
+        theirs: usize,
+        ours: usize,
+    },
     /// The first corner that only one list has, after all that both have; its bits.
     Alone {
         index: usize,
@@ -89,6 +97,12 @@ pub enum Difference {
         line: usize,
         single: String,
         arch: String,
+    },
+    /// How many candidates of a camera have a verdict, and how many of a single call.
+    CameraVerdict {
+        verdict: Verdict,
+        single: usize,
+        arch: usize,
     },
     /// The first corner that differs.
     Corner {
@@ -151,6 +165,25 @@ impl fmt::Display for Difference {
             }
             Difference::Count { theirs, ours } => {
                 write!(out, "count: the Rust {theirs}, ours {ours}")
+            }
+            Difference::Verdict {
+                verdict,
+                theirs,
+                ours,
+            } => {
+                let words = verdict.words();
+                write!(out, "{words}: the judge counts {theirs}, ours {ours}")
+            }
+            Difference::CameraVerdict {
+                verdict,
+                single,
+                arch,
+            } => {
+                let words = verdict.words();
+                write!(
+                    out,
+                    "{words}: a single call counts {single}, the arch {arch}"
+                )
             }
             Difference::Printed { line, theirs, ours } => {
                 write!(

@@ -22,6 +22,8 @@ compare runs the published Rust and the proved finder over the same frames.
 Answers, working image, tables, map, scratch and list must be equal to the bit. Only the places of
 Gaussian corners may differ: by the bound divided by the peak's curvature (the second difference of
 three logarithms) in working pixels, at most by one pixel, and by one step of an f32.
+The six counts, why candidates were dropped and how many are kept, must be those of the judge's own
+reading of the documents over the Rust's map, for the Rust counts none; six zeros with a refusal.
 A frame that is too small to judge, 15, is taken by the Rust and must be refused by ours, with 15:
 there is no list to compare, but the maps are, all buffers, by the functions that make a map alone.
 Each camera of an arch must be told and given what a single call with its frame is, to the bit, and

@@ -4,7 +4,8 @@ use std::fmt;
 
 use judge::{accepted, dues, original, sums, Detector, Room, TOO_SMALL};
 use steyrbunk::frame::Frame;
-use steyrbunk::{printed, Corner, Finder, Found, Map, PeakFit, Refusal};
+use steyrbunk::lent::{self, Answer};
+use steyrbunk::{arch, printed, Corner, Finder, Found, Map, PeakFit, Refusal, Verdict, Verdicts};
 
 use crate::difference::{Difference, What};
 use crate::gaussian::{Distances, Places};
@@ -41,8 +42,9 @@ impl Held {
         )
     }
 
-    /// What a camera was told, beside what a single call with its frame was.
-    fn with_camera(mut self, ours: Result<Found, Refusal>) -> Held {
+    /// What a camera was told, beside what a single call with its frame was; and its six from a call in which its share of the list
+    /// is short.
+    fn with_camera(mut self, ours: Result<Found, Refusal>, told: Verdicts) -> Held {
         let (single, arch) = (printed(&self.ours), printed(&ours));
         let line = |text: &str, at| text.lines().nth(at).unwrap_or_default().to_string();
         let lines = 0..single.lines().count().max(arch.lines().count());
@@ -55,20 +57,72 @@ impl Held {
             })
         };
         self.differences.extend(lines.into_iter().find_map(differs));
+        let single = verdicts_of(&self.ours);
+        self.differences.extend(camera_counts(single, told));
+        if told != verdicts_of(&ours) {
+            let six = camera_counts(single, verdicts_of(&ours));
+            self.differences.extend(six);
+        }
         self.ours = ours;
         self
     }
 
     /// A camera whose frame is not whole: the documents alone say what it is told.
-    fn refused(number: u32, ours: Result<Found, Refusal>) -> Held {
+    fn refused(number: u32, ours: Result<Found, Refusal>, told: Verdicts) -> Held {
+        let (theirs, answer) = (Err(number), answers(number, &ours));
+        let six = counts(&theirs, &ours, told);
         Held {
-            theirs: Err(number),
-            differences: answers(number, &ours).into_iter().collect(),
+            theirs,
+            differences: answer.into_iter().chain(six).collect(),
             ours,
             distances: Distances::default(),
             map_alone: false,
         }
     }
+}
+
+/// What an outcome counts: six zeros with a refusal.
+fn verdicts_of<E>(outcome: &Result<Found, E>) -> Verdicts {
+    let found = outcome.as_ref().ok();
+    found
+        .and_then(|found| found.verdicts)
+        .unwrap_or(Verdicts::NONE)
+}
+
+/// The verdicts of which there are not as many, with both numbers.
+fn unequal(a: Verdicts, b: Verdicts) -> impl Iterator<Item = (Verdict, usize, usize)> {
+    let each = Verdict::ALL.into_iter();
+    each.map(move |verdict| (verdict, a.of(verdict), b.of(verdict)))
+        .filter(|(_, a, b)| a != b)
+}
+
+/// Each count that is not the judge's, or with a refusal of ours not zero. Where ours takes what is to be refused nothing is due:
+/// the answer differs already.
+fn counts(
+    theirs: &Result<Found, u32>,
+    ours: &Result<Found, Refusal>,
+    told: Verdicts,
+) -> Vec<Difference> {
+    let due = match (theirs, ours) {
+        (_, Err(_)) => Verdicts::NONE,
+        (Ok(_), Ok(_)) => verdicts_of(theirs),
+        (Err(_), Ok(_)) => told,
+    };
+    let difference = |(verdict, theirs, ours)| Difference::Verdict {
+        verdict,
+        theirs,
+        ours,
+    };
+    unequal(due, told).map(difference).collect()
+}
+
+/// Each count of a camera that is not a single call's.
+fn camera_counts(single: Verdicts, arch: Verdicts) -> impl Iterator<Item = Difference> {
+    unequal(single, arch).map(|(verdict, single, arch)| Difference::CameraVerdict {
+        verdict,
+        single,
+        arch,
+    })
 }
 
 /// Where ours is not the answer that is due; 0 where the frame is taken.
@@ -119,7 +173,13 @@ impl Pair {
     pub fn hold(&mut self, file: &[u8]) -> Held {
         let frame = Frame::parse(file);
         let ours = frame.and_then(|frame| self.ours.find(frame.image, &frame.settings));
+        // What the library told, with a refusal too; a file that is no frame never got to it.
+        let told = match frame {
+            Ok(_) => self.ours.verdicts(),
+            Err(_) => Verdicts::NONE,
+        };
         let (theirs, mut differences) = self.theirs(file, ours.is_ok());
+        differences.extend(counts(&theirs, &ours, told));
         let mut distances = Distances::default();
         let mut map_alone = false;
         match (&theirs, &ours, frame) {
@@ -188,15 +248,15 @@ impl Pair {
     pub fn hold_arch(&mut self, cameras: usize, frames: &[u8]) -> Vec<Held> {
         let ours = self.ours.arch(cameras, frames);
         let ours = ours.expect("a camera count that is taken");
-        let camera = |(due, ours)| match due {
-            Ok(file) => self.hold(file).with_camera(ours),
-            Err(number) => Held::refused(number, ours),
+        // Once more with room for one corner each, for what is told to those that are refused, or have more.
+        let mut list = [0.0; 3 * arch::MOST];
+        let told = lent::arch(cameras, frames, self.ours.lend(), &mut list).cameras;
+        let camera = |((due, ours), told): (_, Answer)| match due {
+            Ok(file) => self.hold(file).with_camera(ours, told.verdicts),
+            Err(number) => Held::refused(number, ours, told.verdicts),
         };
-        dues(cameras, frames)
-            .into_iter()
-            .zip(ours)
-            .map(camera)
-            .collect()
+        let dues = dues(cameras, frames).into_iter();
+        dues.zip(ours).zip(told).map(camera).collect()
     }
 
     /// The original's list, and how its map differs from ours if there is one.
@@ -211,6 +271,7 @@ impl Pair {
             corners: theirs.corners.into_iter().map(corner).collect(),
             width: theirs.map.w,
             height: theirs.map.h,
+            verdicts: Some(theirs.verdicts.map(|count| count as usize).into()),
         };
         let differences = if mapped {
             maps(theirs.map, self.ours.map())
@@ -316,12 +377,66 @@ mod tests {
 
     use super::*;
 
+    /// Document 01's frame has one candidate.
+    const KEPT: Verdicts = Verdicts {
+        kept: 1,
+        ..Verdicts::NONE
+    };
+
+    /// A count that is not the judge's is told by name, with both numbers; those that are equal are not.
+    #[test]
+    fn counts_that_differ() {
+        let mut pair = Pair::new(0.0);
+        let held = pair.hold(&judge::document_frame().bytes());
+        assert!(held.differences.is_empty(), "{held}");
+        let both = [held.theirs.ok(), held.ours.ok()].map(|found| found?.verdicts);
+        assert_eq!(both, [Some(KEPT); 2]);
+        let found = |six: [usize; 6]| Found {
+            corners: Vec::new(),
+            width: 7,
+            height: 7,
+            verdicts: Some(six.into()),
+        };
+        let six = [60, 50, 40, 30, 20, 10];
+        let told = |theirs: &Result<Found, u32>, ours: [usize; 6]| {
+            let six = counts(theirs, &Ok(found(ours)), ours.into());
+            let each: Vec<String> = six.iter().map(Difference::to_string).collect();
+            each.join("; ")
+        };
+        let theirs = Ok(found(six));
+        assert_eq!(told(&theirs, six), "");
+        assert_eq!(
+            told(&theirs, [60, 50, 40, 29, 21, 10]),
+            "too flat: the judge counts 30, ours 29; wrong curvature: the judge counts 20, ours 21"
+        );
+        // Ours takes what is to be refused: that is the difference, and no count is due.
+        assert_eq!(told(&Err(15), six), "");
+        // With a refusal of ours six zeros are.
+        let small = Err(Refusal::FrameTooSmall);
+        assert_eq!(counts(&Err(15), &small, Verdicts::NONE), []);
+        assert_eq!(counts(&theirs, &small, Verdicts::NONE), []);
+        let one = Difference::Verdict {
+            verdict: Verdict::Kept,
+            theirs: 0,
+            ours: 1,
+        };
+        assert_eq!(one.to_string(), "kept: the judge counts 0, ours 1");
+        assert_eq!(counts(&Err(15), &small, KEPT), [one.clone()]);
+        assert_eq!(
+            Held::refused(13, Err(Refusal::StatedLength), KEPT).differences,
+            [one]
+        );
+    }
+
     /// What a camera is told must be what a single call is, every bit of it.
     #[test]
     fn a_camera_is_as_a_single_call() {
         let file = judge::document_frame().bytes();
         let mut pair = Pair::new(0.0);
-        let mut camera = |ours| pair.hold(&file).with_camera(ours).differences;
+        let mut camera = |ours: Result<Found, Refusal>| {
+            let told = verdicts_of(&ours);
+            pair.hold(&file).with_camera(ours, told).differences
+        };
         let right = Found {
             corners: vec![Corner {
                 x: 3.0,
@@ -330,6 +445,7 @@ mod tests {
             }],
             width: 7,
             height: 7,
+            verdicts: Some(KEPT),
         };
         assert_eq!(camera(Ok(right.clone())), []);
         let mut wrong = vec![right.clone(); 4];
@@ -343,15 +459,32 @@ mod tests {
                 other => panic!("{other:?}"),
             }
         }
-        assert_eq!(camera(Err(Refusal::Mode)).len(), 1);
-        assert!(Held::refused(13, Err(Refusal::StatedLength))
-            .differences
-            .is_empty());
+        // A camera that is refused has six zeros, where one was kept.
+        assert_eq!(camera(Err(Refusal::Mode)).len(), 2);
+        let mut slipped = right.clone();
+        slipped.verdicts = Some([0, 0, 0, 2, 0, 1].into());
+        let difference = Difference::CameraVerdict {
+            verdict: Verdict::TooFlat,
+            single: 0,
+            arch: 2,
+        };
+        assert_eq!(
+            difference.to_string(),
+            "too flat: a single call counts 0, the arch 2"
+        );
+        assert_eq!(camera(Ok(slipped)), [difference.clone()]);
+        // The six are those of a short list too.
+        let told = [0, 0, 0, 2, 0, 1].into();
+        let held = pair.hold(&file).with_camera(Ok(right.clone()), told);
+        assert_eq!(held.differences, [difference]);
+        let none = Verdicts::NONE;
+        let held = Held::refused(13, Err(Refusal::StatedLength), none);
+        assert_eq!(held.differences, []);
         let answer = Difference::Answer {
             theirs: 13,
             ours: 0,
         };
-        assert_eq!(Held::refused(13, Ok(right)).differences, [answer]);
+        assert_eq!(Held::refused(13, Ok(right), KEPT).differences, [answer]);
     }
 
     /// A frame that is too small for a list: what ours answers is held to 15, and its map to the Rust's.
@@ -412,6 +545,7 @@ mod tests {
             corners: Vec::new(),
             width: 6,
             height: 6,
+            verdicts: Some(Verdicts::NONE),
         };
         let difference = answers(15, &Ok(found)).expect("another answer");
         assert_eq!(

@@ -4,6 +4,7 @@ use std::collections::BTreeMap;
 use std::fmt;
 
 use judge::TOO_SMALL;
+use steyrbunk::Verdict;
 
 use crate::gaussian::{Distances, CURVATURES, DOUBLINGS, FLAT};
 use crate::pair::Held;
@@ -25,6 +26,8 @@ pub struct Summary {
     /// Frames that could not be read.
     pub unread: u64,
     corners: u64,
+    /// Candidates of the accepted frames by verdict, as the judge counts them.
+    verdicts: [u64; Verdict::ALL.len()],
     refused: BTreeMap<u32, u64>,
     /// Refused frames whose maps were compared all the same.
     maps_alone: u64,
@@ -38,7 +41,13 @@ impl Summary {
         self.distances.join(&held.distances);
         self.maps_alone += u64::from(held.map_alone);
         match &held.theirs {
-            Ok(found) => self.corners += found.corners.len() as u64,
+            Ok(found) => {
+                self.corners += found.corners.len() as u64;
+                let counts = found.verdicts.unwrap_or_default().counts();
+                let sums = self.verdicts.iter_mut();
+                sums.zip(counts)
+                    .for_each(|(sum, count)| *sum += count as u64);
+            }
             Err(number) => *self.refused.entry(*number).or_default() += 1,
         }
     }
@@ -46,6 +55,16 @@ impl Summary {
     /// Something was compared, everything was read, and nothing differs that may not.
     pub fn agreed(&self) -> bool {
         self.frames > 0 && self.differ == 0 && self.unread == 0
+    }
+
+    /// What became of all candidates.
+    fn candidates(&self, out: &mut fmt::Formatter<'_>) -> fmt::Result {
+        let all: u64 = self.verdicts.iter().sum();
+        let each = Verdict::ALL.iter().zip(self.verdicts);
+        let each: Vec<String> = each
+            .map(|(verdict, sum)| format!("{} {sum}", verdict.words()))
+            .collect();
+        writeln!(out, "candidates: {all}; {}", each.join(", "))
     }
 
     fn distances(&self, out: &mut fmt::Formatter<'_>) -> fmt::Result {
@@ -159,6 +178,7 @@ impl fmt::Display for Summary {
                 self.maps_alone
             )?;
         }
+        self.candidates(out)?;
         self.distances(out)
     }
 }

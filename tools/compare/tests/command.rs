@@ -4,7 +4,8 @@ use std::fs;
 use std::path::{Path, PathBuf};
 use std::process::{Command, Output};
 
-use judge::{accepted, damaged, document_frame, made_arch, make, Frame, Room, Sizes, TOO_SMALL};
+use judge::{accepted, damaged, document_frame, made_arch, make};
+use judge::{Detector, Frame, Room, Sizes, TOO_SMALL};
 
 /// An empty folder for one test.
 fn folder(name: &str) -> PathBuf {
@@ -30,6 +31,7 @@ fn made_frames() {
     );
     assert_eq!(status, 0, "{text}");
     assert!(text.contains("400 frames: 400 agreed, 0 differ, 0 could not be read"));
+    assert_eq!(told_six(&text), six((100..500).map(|at| make(31, at))));
     assert_eq!(told_small(&text), small((100..500).map(|at| make(31, at))));
     // What `tools/lean` reads: the last line, with coordinates, mean distance, mean lean and the greatest.
     let all: Vec<&str> = text.lines().last().unwrap().split_whitespace().collect();
@@ -67,6 +69,32 @@ fn told_small(text: &str) -> usize {
     count.split(',').next().unwrap().parse().unwrap()
 }
 
+/// The six that the judge counts over these, and that they bring each verdict.
+fn six(files: impl Iterator<Item = Vec<u8>>) -> [u64; 6] {
+    let (mut sums, mut detector) = ([0; 6], Detector::new());
+    for file in files {
+        let six = judge::reported(&mut detector, &file, Room::FREE);
+        sums.iter_mut().zip(six).for_each(|(sum, n)| *sum += n);
+    }
+    assert!(sums.iter().all(|sum| *sum > 0), "{sums:?}");
+    sums
+}
+
+/// The six of the report, and that they are all candidates.
+fn told_six(text: &str) -> [u64; 6] {
+    let lines = text.lines();
+    let line = lines.filter_map(|line| line.strip_prefix("candidates: "));
+    let (all, each) = line.last().unwrap().split_once("; ").unwrap();
+    let names = judge::verdicts::NAMES.into_iter();
+    let told = names.zip(each.split(", ")).map(|(name, words)| {
+        let sum = words.strip_prefix(&format!("{name} ")).unwrap();
+        sum.parse().unwrap()
+    });
+    let told: Vec<u64> = told.collect();
+    assert_eq!(told.iter().sum::<u64>().to_string(), all);
+    told.try_into().unwrap()
+}
+
 /// Document 01's frame cut to six by seven: its height is enough, its width is at twice the border.
 fn cut() -> Frame {
     let document = document_frame();
@@ -100,6 +128,8 @@ fn small_frames() {
         assert!(text.contains(&told), "{text}");
     }
     assert!(text.contains("the Rust: 1 with 1 corners, 2 refused by documents 01 and 02\n"));
+    // The one candidate of document 01's frame; those that are refused have none.
+    assert_eq!(told_six(&text), [0, 0, 0, 0, 0, 1]);
     assert!(text.contains("refused by number: 15: 2\n"));
     let archive = [cut().bytes(), document_frame().bytes(), none.bytes()].concat();
     fs::write(folder.join("archive"), archive).unwrap();
@@ -171,12 +201,13 @@ fn arches() {
     for number in [11, 13] {
         assert!(text.contains(&format!("agreed, refused {number}\n")));
     }
-    let cameras = (0..200).map(|index| made_arch(33, index, Sizes::PROGRAM));
+    let cameras = || (0..200).map(|index| made_arch(33, index, Sizes::PROGRAM));
     let whole = |(cameras, frames): (usize, Vec<u8>)| {
         let whole = judge::dues(cameras, &frames).into_iter().flatten();
         whole.map(<[u8]>::to_vec).collect::<Vec<_>>()
     };
-    assert_eq!(told_small(&text), small(cameras.flat_map(whole)));
+    assert_eq!(told_small(&text), small(cameras().flat_map(whole)));
+    assert_eq!(told_six(&text), six(cameras().flat_map(whole)));
     let words = [
         "--arch", "--seed", "1", "--count", "60", "--bound", "-1", "--keep", "kept",
     ];
