@@ -12,13 +12,14 @@ Then
     corners = finder.find(pixels, 1280, 960)         # bytes, row after row, with their sides
     corners = finder.find(image, threshold_rel=0.1)  # other settings than the defaults
     steyrbunk.draw("dawn.png", image, corners)
+    print(corners.verdicts)                          # why the other pixels are no corners: six counts
     kept = steyrbunk.write_record(corners, corners.width, corners.height)  # bytes, to be read back years later
     corners, width, height = steyrbunk.read_record(kept)                   # every number as it was
     for found in finder.arch(files):                 # all cameras of an arch in one call: their frame files
         print("refused" if isinstance(found, steyrbunk.Refused) else len(found))
 
 A refusal raises `Refused`, with the documents' number and its words; there is no list then, and none from before. An image
-that is too small to judge is one, 15: an empty list is only of an image that was searched.
+that is too small to judge is one, 15: an empty list is only of an image that was searched. Its six counts are all 0.
 What is proved is the library behind the call; this file is not, and is tested by running it.
 """
 
@@ -30,13 +31,21 @@ import struct
 import zlib
 from collections import namedtuple
 
-__all__ = ["Corner", "Finder", "Found", "Record", "Refused", "WORDS", "draw", "read_record", "write_record"]
+__all__ = ["Corner", "Finder", "Found", "Record", "Refused", "Verdicts", "WORDS", "draw", "read_record", "write_record"]
+__version__ = "0.4.0"
 
 Corner = namedtuple("Corner", "x y strength")
 Corner.__doc__ = "A corner: its place in input pixels, the middle of a pixel being a whole number, and the map's value there."
 
 Record = namedtuple("Record", "corners width height")
 Record.__doc__ = "What a corner record holds: the corners, and the sides of the working image."
+
+Verdicts = namedtuple("Verdicts", "not_above beaten too_few too_flat wrong_curvature kept")
+Verdicts.__doc__ = """How many candidates, the working pixels that are not too near to an edge, fail which rule first, or are kept:
+not above the floor, beaten by a neighbour, too few positive neighbours, too flat, wrong curvature; kept, which are the corners.
+Together they are all candidates, at least one; six zeros where nothing was searched."""
+
+NO_VERDICTS = Verdicts(0, 0, 0, 0, 0, 0)
 
 WORDS = {
     0: "accepted, all corners are in the list",
@@ -83,10 +92,10 @@ _FIRST_ROOM = 1024
 
 
 class Refused(ValueError):
-    """A call that was refused: `number` is the documents', `words` say why."""
+    """A call that was refused: `number` is the documents', `words` say why, and `verdicts` are six zeros."""
 
-    def __init__(self, number):
-        self.number = number
+    def __init__(self, number, verdicts=NO_VERDICTS):
+        self.number, self.verdicts = number, verdicts
         self.words = WORDS.get(number, "refused for a reason that this file does not know")
         super().__init__(f"refused {number}: {self.words}")
 
@@ -134,11 +143,12 @@ def _lent(kind, view):
 
 
 class Found(list):
-    """The corners of an image, a list like any other; `width` and `height` are the working image's sides."""
+    """The corners of an image, a list like any other; `width` and `height` are the working image's sides, `verdicts` say what became
+    of its candidates."""
 
-    def __init__(self, corners, width, height):
+    def __init__(self, corners, width, height, verdicts=None):
         super().__init__(corners)
-        self.width, self.height = width, height
+        self.width, self.height, self.verdicts = width, height, verdicts
 
 
 def _corners(numbers):
@@ -146,7 +156,7 @@ def _corners(numbers):
 
 
 class _Told:
-    """The numbers that the library tells beside its answer: count, width and height."""
+    """The numbers that the library tells beside its answer, each by a pointer: count, width and height."""
 
     def __init__(self):
         self.numbers = [ctypes.c_size_t() for _ in range(3)]
@@ -163,7 +173,7 @@ class Finder:
 
     def __init__(self, library=None):
         self._library = library
-        self._find = _entry(library, "steyrbunk_find")
+        self._find = _entry(library, "steyrbunk_corners")
         self._entries = 0
         self._buffers = self._made(0)
         self._room(_FIRST_ROOM)
@@ -192,16 +202,16 @@ class Finder:
         numbers += [self._whole(chosen, name) for name in ("nms_radius", "min_cluster_size")]
         lent = _lent(ctypes.c_uint8, pixels)
         while True:
-            told = _Told()
+            told, six = _Told(), (ctypes.c_size_t * len(NO_VERDICTS))()
             arguments = [lent, ctypes.c_size_t(len(pixels)), ctypes.c_size_t(width), ctypes.c_size_t(height), *numbers]
-            answer = self._find(*arguments, *self._lend(), *told.arguments())
+            answer = self._find(*arguments, *self._lend(), *told.arguments(), six)
             count, *sides = told.values()
             if answer == 1:
                 self._room(count)
                 continue
             if answer != 0:
-                raise Refused(answer)
-            return Found(_corners(self._list[: 3 * count]), *sides)
+                raise Refused(answer, Verdicts(*six))
+            return Found(_corners(self._list[: 3 * count]), *sides, Verdicts(*six))
 
     def arch(self, frames, cameras=None):
         """All cameras of an arch in one call: for each a Found, or a Refused where its frame is refused, which stops no other.
@@ -219,11 +229,11 @@ class Finder:
         for file in itertools.islice(_whole_files(frames), _MOST_CAMERAS):
             if len(file) >= _FRAME_HEAD:
                 self._prepare(len(file) - _FRAME_HEAD, *struct.unpack_from(">HH", file, 5), file[10])
-        call, lent, room = _entry(self._library, "steyrbunk_arch"), _slice(ctypes.c_uint8, frames), _FIRST_ROOM
+        call, lent, room = _entry(self._library, "steyrbunk_run_arch"), _slice(ctypes.c_uint8, frames), _FIRST_ROOM
         while True:
             if len(self._list) < 3 * known * room:
                 self._room(known * room)
-            told = ((ctypes.c_size_t * 4) * _MOST_CAMERAS)()
+            told = ((ctypes.c_size_t * (4 + len(NO_VERDICTS))) * _MOST_CAMERAS)()
             answer = call(ctypes.c_size_t(known), *lent, *self._lend(), told)
             if answer != 0:
                 raise Refused(answer)
@@ -232,10 +242,12 @@ class Finder:
                 return [self._camera(i, known, *told[i]) for i in range(known)]
             room = max(full)
 
-    def _camera(self, i, cameras, answer, count, width, height):
+    def _camera(self, i, cameras, answer, count, width, height, *six):
         """What camera i found in its share of the list, or why it was refused."""
-        share = i * (len(self._list) // 3 // cameras * 3)
-        return Refused(answer) if answer else Found(_corners(self._list[share : share + 3 * count]), width, height)
+        share, verdicts = i * (len(self._list) // 3 // cameras * 3), Verdicts(*six)
+        if answer != 0:
+            return Refused(answer, verdicts)
+        return Found(_corners(self._list[share : share + 3 * count]), width, height, verdicts)
 
     def _lend(self):
         """The buffers and the list as arguments, each with its length."""
@@ -303,7 +315,12 @@ def read_record(record, library=None):
 
 
 def _entry(library, name):
-    entry = getattr(_library(library), name)
+    """A function of the library. One that tells more than it did has a new name, so that an old library is told and not called."""
+    loaded = _library(library)
+    try:
+        entry = getattr(loaded, name)
+    except AttributeError:
+        raise OSError(f"{loaded._name} has no {name}: it is older than steyrbunk.py, {__version__}; build it again, as that file says") from None
     entry.restype = ctypes.c_uint32
     return entry
 

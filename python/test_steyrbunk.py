@@ -1,4 +1,5 @@
-"""Runs steyrbunk.py: document 01's frame, a board against the fitters' command, every refusal, other buffers, arches, records, drawings.
+"""Runs steyrbunk.py: document 01's frame, a board against the fitters' command, every refusal, other buffers, verdicts, arches,
+records, drawings, a library that is too old.
 
 usage: test_steyrbunk.py COMMAND FOLDER    the built command `steyrbunk`, and an empty folder
 """
@@ -34,6 +35,7 @@ def refused(number, call, *arguments, **settings):
         given = call(*arguments, **settings)
     except steyrbunk.Refused as error:
         check((error.number, error.words, error.words in str(error)), (number, steyrbunk.WORDS[number], True))
+        check((error.verdicts, sum(error.verdicts)), (steyrbunk.NO_VERDICTS, 0))
     else:
         check(given, f"refused {number}")
 
@@ -52,6 +54,7 @@ corner = [steyrbunk.Corner(3.0, 3.0, 160000.0)]
 found = finder.find(FRAME, 7, 7, **SETTINGS)
 check(found, corner)
 check((isinstance(found, list), found.width, found.height), (True, 7, 7))
+check(found.verdicts, steyrbunk.Verdicts(not_above=0, beaten=0, too_few=0, too_flat=0, wrong_curvature=0, kept=1))
 twice = finder.find(FRAME, 7, 7, **{**SETTINGS, "image_upsample": 2})
 check((twice.width, twice.height, found.width, found.height), (14, 14, 7, 7))
 check((copy.deepcopy(found), copy.copy(found).width, found + [], json.dumps(found)), (corner, 7, corner, "[[3.0, 3.0, 160000.0]]"))
@@ -82,8 +85,31 @@ expected = [tuple(struct.unpack("f", struct.pack("f", c[n]))[0] for n in ("x", "
 check(len(expected) > 100, True)
 for room in (1024, 1):
     finder._room(room)
-    check([tuple(corner) for corner in finder.find(board, width, height)], expected)
+    given = finder.find(board, width, height)
+    check([tuple(corner) for corner in given], expected)
+    check(given.verdicts._asdict(), json.loads(text)["verdicts"])
+    check((given.verdicts.kept, sum(given.verdicts)), (len(expected), (2 * width - 18) * (2 * height - 18)))
     check(finder.find(FRAME, 7, 7, **SETTINGS), corner)
+
+# Each of the six, of document 01's one candidate: the saddle moved by a pixel, an edge, a speck.
+def saddle(right):
+    return bytes(200 if (x - 3 - right) * (y - 3) > 0 else 0 if (x - 3 - right) * (y - 3) < 0 else 100 for y in range(7) for x in range(7))
+
+
+edge = bytes(200 if x > 2 else 0 for y in range(7) for x in range(7))
+speck = bytes(101 if (x, y) == (4, 4) else 100 for y in range(7) for x in range(7))
+for verdict, image, settings in (
+    ("not_above", FRAME, {"threshold_rel": 1.0}),
+    ("not_above", bytes(49), {}),
+    ("beaten", saddle(1), {"threshold_rel": 0.0}),
+    ("too_few", FRAME, {"min_cluster_size": 9}),
+    ("too_flat", speck, {}),
+    ("wrong_curvature", edge, {}),
+    ("kept", FRAME, {"min_cluster_size": 8}),
+):
+    given = finder.find(image, 7, 7, **{**SETTINGS, **settings})
+    check(given.verdicts, steyrbunk.NO_VERDICTS._replace(**{verdict: 1}))
+    check(len(given), given.verdicts.kept)
 
 # Every refusal that can come, by its number; after each the next call is as before.
 for number, arguments, settings in (
@@ -129,11 +155,15 @@ def frame_file(image, width, height, ray=1, upsample=1, blur=0, fit=0, nms=1, le
 
 
 def results(arch):
-    return [each.number if isinstance(each, steyrbunk.Refused) else (each, each.width, each.height) for each in arch]
+    for each in arch:
+        if isinstance(each, steyrbunk.Refused):
+            check(each.verdicts, steyrbunk.NO_VERDICTS)
+    return [each.number if isinstance(each, steyrbunk.Refused) else (each, each.width, each.height, each.verdicts) for each in arch]
 
 
 small, large = frame_file(FRAME, 7, 7), frame_file(board, width, height, 4, 2, 1, 1, 4)
-one, all_of_it = (corner, 7, 7), (finder.find(board, width, height), 2 * width, 2 * height)
+board_found = finder.find(board, width, height)
+one, all_of_it = (corner, 7, 7, found.verdicts), (board_found, 2 * width, 2 * height, board_found.verdicts)
 check(results(finder.arch([small, small])), [one, one])
 for count in range(2, 9):
     files = [large if i % 3 == 1 else small for i in range(count)]
@@ -194,7 +224,6 @@ check(steyrbunk.write_record(corners, wide, high), sound)
 check(steyrbunk.write_record(iter(corners), wide, high), sound)
 for given in (bytearray(sound), memoryview(sound), array.array("B", sound), memoryview(sound + sound)[: len(sound)]):
     check(steyrbunk.write_record(*steyrbunk.read_record(given)), sound)
-board_found = finder.find(board, width, height)
 kept = os.path.join(FOLDER, "board.record")
 with open(kept, "wb") as file:
     file.write(subprocess.run([COMMAND, "--format", "record", path], capture_output=True, check=True).stdout)
@@ -244,4 +273,24 @@ rows = zlib.decompress(png[41 : 41 + struct.unpack(">I", png[33:37])[0]])
 at = lambda x, y: tuple(rows[y * (3 * wide + 1) + 1 + 3 * x :][:3])
 check((at(0, 0), at(797, 0), at(399, 399)), ((200, 200, 200), (0, 0, 0), (230, 0, 30)))
 check(os.path.exists(drawing + ".part"), False)
+
+# A library of before: no call is made, and a sentence says which function it lacks.
+with open(os.path.join(FOLDER, "old.c"), "w") as file:
+    file.write("unsigned steyrbunk_find(void) { return 0; } unsigned steyrbunk_arch(void) { return 0; }\n")
+old = os.path.join(FOLDER, "old.so")
+subprocess.run(["cc", "-shared", "-fPIC", "-o", old, os.path.join(FOLDER, "old.c")], check=True)
+for name, call in (("steyrbunk_corners", steyrbunk.Finder), ("steyrbunk_read_record", lambda library: steyrbunk.read_record(b"", library))):
+    try:
+        call(old)
+    except OSError as error:
+        check(f"{old} has no {name}: it is older than steyrbunk.py, {steyrbunk.__version__}; build it again" in str(error), True)
+    else:
+        check(name, "an error")
+finder._library = old
+try:
+    finder.arch([small, small])
+except OSError as error:
+    check("has no steyrbunk_run_arch" in str(error), True)
+else:
+    check("steyrbunk_run_arch", "an error")
 print(f"{CHECKS} checks pass")
