@@ -36,7 +36,9 @@ impl Worker<'_> {
     /// All cameras at once, each with a file of its own or so many together in one.
     pub fn arch(&mut self, together: Option<usize>, planned: &[Planned]) -> Vec<Done> {
         let started = Instant::now();
-        let begun = planned.iter().map(|planned| Done::new(planned.frame));
+        let begun = planned
+            .iter()
+            .map(|planned| Done::new(planned.frame, self.options.source));
         let mut all: Vec<Done> = begun.collect();
         let laid = self.laid(together, planned, &mut all);
         let cameras = together.unwrap_or(planned.len());
@@ -112,15 +114,28 @@ impl Worker<'_> {
 
     /// What the library answered, handed on.
     fn camera(
-        &self,
+        &mut self,
         planned: &Planned,
         frame: Option<Frame>,
         answer: Result<Found, Refusal>,
         done: &mut Done,
     ) -> Result<Found, Problem> {
-        let image = frame.map(|frame| frame.image);
         let advised = |refusal| advised(refusal, frame.as_ref());
         let found = answer.map_err(|refusal| directed(advised(refusal), planned.frame.spoken()))?;
-        self.hand_on(planned, found, image, done)
+        if let Some(frame) = frame.filter(|_| self.options.are_marks_drawn()) {
+            self.again(&frame, &found)?;
+        }
+        self.hand_on(planned, found, frame, done)
+    }
+
+    /// The camera's frame by itself, for its map: the buffers of an arch are the last camera's. Both calls must have found the same.
+    fn again(&mut self, frame: &Frame, found: &Found) -> Result<(), Problem> {
+        let single = self.finder.find(frame.image, &frame.settings)?;
+        match single == *found {
+            true => Ok(()),
+            false => Err("a single call with this frame finds other corners or verdicts than the arch, and nothing is drawn"
+                .to_string()
+                .into()),
+        }
     }
 }

@@ -10,9 +10,9 @@ use crate::png::{base64, png, Channels};
 const COMFORTABLE: usize = 800;
 const MARK: [u8; 3] = [230, 0, 30];
 
-/// How many times a picture is enlarged.
-fn enlarged(image: Image) -> usize {
-    (COMFORTABLE / image.width.max(image.height).max(1)).max(1)
+/// How many times a picture of these sides is enlarged.
+pub fn enlarged(width: usize, height: usize) -> usize {
+    (COMFORTABLE / width.max(height).max(1)).max(1)
 }
 
 /// The middle of pixel 0 is place 0; in a drawing its edge is.
@@ -28,7 +28,7 @@ pub fn svg(image: Image, corners: &[Corner]) -> Vec<u8> {
         height,
     } = image;
     let (scale, picture) = (
-        enlarged(image),
+        enlarged(width, height),
         base64(&png(width, height, Channels::Grey, pixels)),
     );
     // Marks of the same size on the screen, whatever the picture's size.
@@ -59,7 +59,7 @@ pub fn svg(image: Image, corners: &[Corner]) -> Vec<u8> {
 
 /// The picture, enlarged if it is small, with a cross at each corner.
 pub fn picture(image: Image, corners: &[Corner]) -> Vec<u8> {
-    let scale = enlarged(image);
+    let scale = enlarged(image.width, image.height);
     let (width, height) = (scale * image.width, scale * image.height);
     let mut canvas = Vec::with_capacity(3 * width * height);
     for y in 0..height {

@@ -7,7 +7,7 @@ use std::{fs, io};
 use console::{shown, Usage};
 use steyrbunk::arch;
 
-use crate::options::Place;
+use crate::options::{Options, Place};
 use crate::site;
 use crate::source::Source;
 
@@ -53,6 +53,17 @@ impl Frame {
         }
     }
 
+    /// Its results, by their endings.
+    pub fn results(&self, endings: &[&str]) -> Vec<PathBuf> {
+        let result = |ending: &&str| {
+            let mut name = self.name.clone().into_os_string();
+            name.push(".");
+            name.push(ending);
+            name.into()
+        };
+        endings.iter().map(result).collect()
+    }
+
     /// Where it is read from, as a whole path.
     pub fn whole_path(&self) -> Vec<u8> {
         let path = self.path.as_deref().unwrap_or(Path::new(INPUT));
@@ -81,11 +92,13 @@ pub struct Group {
 }
 
 /// The frames of a call by the folder of their results. Only folders are read.
-pub fn gather(
-    source: Source,
-    paths: &[PathBuf],
-    place: Option<&Place>,
-) -> Result<Vec<Group>, Usage> {
+pub fn gather(options: &Options) -> Result<Vec<Group>, Usage> {
+    let Options {
+        source,
+        paths,
+        place,
+        ..
+    } = options;
     let mut groups: Vec<Group> = Vec::new();
     if !matches!(place, Some(Place::Beside)) {
         let folder = match place {
@@ -98,9 +111,9 @@ pub fn gather(
         });
     }
     for (at, path) in paths.iter().enumerate() {
-        let mut found = look(source, path, paths.len() > 1);
+        let mut found = look(*source, path, paths.len() > 1);
         if let Source::Arch(cameras) = source {
-            found.number(at, cameras);
+            found.number(at, *cameras);
         }
         match place {
             Some(Place::Beside) => beside(&mut groups, path, found)?,
@@ -111,6 +124,8 @@ pub fn gather(
         return one(groups);
     }
     groups.iter_mut().for_each(Group::order);
+    let endings = options.endings();
+    let distinct = |group| distinct(group, &endings);
     groups.iter().try_for_each(distinct)?;
     Ok(groups)
 }
@@ -293,18 +308,20 @@ fn beside(groups: &mut Vec<Group>, path: &Path, mut found: Group) -> Result<(), 
 }
 
 /// Two frames must not write the same result: the second would pass for the first.
-fn distinct(group: &Group) -> Result<(), Usage> {
+fn distinct(group: &Group, endings: &[&str]) -> Result<(), Usage> {
     let Some(folder) = &group.folder else {
         return Ok(());
     };
     let mut owners = HashMap::new();
     for frame in &group.frames {
-        if let Some(other) = owners.insert(&frame.name, &frame.shown) {
-            return Usage::wrong(format!(
-                "{other} and {} would both write {}; name their folders instead",
-                frame.shown,
-                shown(&folder.join(&frame.name))
-            ));
+        for result in frame.results(endings) {
+            let path = shown(&folder.join(&result));
+            if let Some(other) = owners.insert(result, &frame.shown) {
+                return Usage::wrong(format!(
+                    "{other} and {} would both write {path}; name their folders instead",
+                    frame.shown
+                ));
+            }
         }
     }
     Ok(())

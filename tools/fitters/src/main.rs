@@ -3,15 +3,18 @@
 mod cameras;
 mod digest;
 mod draw;
+mod font;
 mod frame_file;
 mod gather;
 mod json;
+mod marks;
 mod options;
 mod output;
 mod png;
 mod record;
 mod site;
 mod source;
+mod why;
 mod work;
 
 use std::collections::BTreeSet;
@@ -92,7 +95,7 @@ impl Run<'_> {
                 results: Ok(Vec::new()),
             })
             .collect();
-        say(self.options.format.head(self.options.source));
+        say(&self.options.head());
         let mut frames = group.frames.iter();
         work::work(self.options, None, &planned, |done| {
             let frame = frames.next().expect("a frame for each that is told of");
@@ -134,16 +137,7 @@ impl Run<'_> {
 
     /// The results that a frame is to have, or what stands in their way.
     fn results(&self, frame: &Frame, site: &Site) -> Result<Vec<PathBuf>, String> {
-        let endings = std::iter::once(self.options.format.ending())
-            .chain(self.options.drawings.iter().map(|drawing| drawing.ending()));
-        let results: Vec<PathBuf> = endings
-            .map(|ending| {
-                let mut name = frame.name.clone().into_os_string();
-                name.push(".");
-                name.push(ending);
-                name.into()
-            })
-            .collect();
+        let results = frame.results(&self.options.endings());
         match results.iter().find(|result| site.is_taken(result)) {
             Some(result) => Err(format!(
                 "{} is there and not of an earlier run: it stays, and there is no new list",
@@ -177,6 +171,8 @@ impl Run<'_> {
                 camera: None,
                 read: None,
                 end,
+                verdicts: self.options.source.unsearched(),
+                why: None,
                 results: Vec::new(),
                 time: Duration::ZERO,
             });
@@ -234,7 +230,7 @@ fn list(options: &Options) -> Result<ExitCode, Usage> {
     if let Some(Place::Folder(folder)) = &options.place {
         gather::make(folder).or_else(|error| Usage::wrong(error.to_string()))?;
     }
-    let groups = gather::gather(options.source, &options.paths, options.place.as_ref())?;
+    let groups = gather::gather(options)?;
     let total = groups.iter().map(|group| group.frames.len() as u64).sum();
     if options.format == Format::Record && options.place.is_none() {
         alone(total)?;

@@ -6,6 +6,7 @@ use std::thread::available_parallelism;
 use console::{Usage, Word, Words};
 use frames::{settings_help, Named};
 
+use crate::marks;
 use crate::output::Format;
 use crate::source::Source;
 
@@ -40,6 +41,10 @@ Output
   --beside         writes them beside each frame instead
   --draw svg       draws the corners over the picture too, as NAME.svg; needs --out or --beside
   --draw png       the same as NAME.png
+  --why            says of each frame, on standard error, how many candidates failed which rule and
+                   what that may mean; with --draw it also marks them in a drawing NAME.why.png,
+                   which has a legend; csv gets six columns more, and a line without a corner for a
+                   frame that has none
   --jobs N         frames at a time; default: as many as there are cores
   --quiet          no progress
   --version        the version, and nothing else
@@ -58,9 +63,15 @@ A number of cameras that is not 2 to 8 is refused, 21.
 
 steyrbunk read prints the lists of records as those of their frames, in every format and by the same
 rules, but for what a record does not have: the frame's name (the record's stands in its place), the
-settings, and the picture, so that --draw and settings are wrong words there. A damaged record is
-refused, by a number from 16 to 19, and has no list. A run takes away the results of the run before
-in its folder: each dawn that is to be kept needs a folder of its own, and read writes to another.
+settings, the picture and the verdicts, so that --draw, --why and settings are wrong words there. A
+damaged record is refused, by a number from 16 to 19, and has no list. A run takes away the results
+of the run before in its folder: each dawn that is to be kept needs a folder of its own, and read
+writes to another.
+
+Verdicts. Working pixels that are not too near to an edge are candidates. Each fails one of five
+rules first or is kept: not above the floor, beaten by a neighbour, too few positive neighbours, too
+flat, wrong curvature. json and run.json have the six counts of every frame, all 0 of one that was
+not searched.
 
 Places are input pixels; the middle of the upper left pixel is 0, 0. A name with control characters
 or bytes that are no text is shown with \\xNN in their place.
@@ -114,6 +125,7 @@ pub struct Options {
     pub format: Format,
     pub place: Option<Place>,
     pub drawings: Vec<Drawing>,
+    pub why: bool,
     pub jobs: usize,
     pub quiet: bool,
     pub named: Named,
@@ -133,6 +145,7 @@ pub fn call(mut words: Words) -> Result<Call, Usage> {
         format: Format::List,
         place: None,
         drawings: Vec::new(),
+        why: false,
         jobs: available_parallelism().map_or(1, usize::from),
         quiet: false,
         named: Named::default(),
@@ -205,6 +218,21 @@ impl Options {
         self.suit_frames()
     }
 
+    /// Whether candidates are drawn too.
+    pub fn are_marks_drawn(&self) -> bool {
+        self.why && !self.drawings.is_empty()
+    }
+
+    /// The endings of a frame's results: the list's, the drawings', and that of the marks.
+    pub fn endings(&self) -> Vec<&'static str> {
+        let drawings = self.drawings.iter().map(|drawing| drawing.ending());
+        let marks = self.are_marks_drawn().then_some(marks::ENDING);
+        std::iter::once(self.format.ending())
+            .chain(drawings)
+            .chain(marks)
+            .collect()
+    }
+
     fn are_settings_named(&self) -> bool {
         self.named != Named::default() || self.replace
     }
@@ -218,6 +246,11 @@ impl Options {
         }
         if !self.drawings.is_empty() {
             return Usage::wrong("--draw does not go with read: a record has no picture");
+        }
+        if self.why {
+            return Usage::wrong(
+                "--why does not go with read: a record does not keep the verdicts",
+            );
         }
         if self.are_settings_named() {
             return Usage::wrong("settings do not go with read: the corners are found already");
@@ -255,6 +288,7 @@ impl Options {
                 0 => return Usage::wrong("--jobs wants a number from 1 up, not '0'"),
                 jobs => self.jobs = jobs,
             },
+            "--why" => self.why = true,
             "--quiet" => self.quiet = true,
             "--override" => self.replace = true,
             _ => {

@@ -4,11 +4,30 @@ const SIGNATURE: [u8; 8] = *b"\x89PNG\r\n\x1a\n";
 /// The longest block that deflate stores.
 const BLOCK: usize = 65_535;
 
-/// How many bytes a pixel has: 1 for grey, 3 for red, green and blue.
+/// What the bytes of a pixel are: a grey, red and green and blue, or the place of its colour among these.
 #[derive(Clone, Copy)]
-pub enum Channels {
-    Grey = 1,
-    Colour = 3,
+pub enum Channels<'a> {
+    Grey,
+    Colour,
+    Palette(&'a [[u8; 3]]),
+}
+
+impl Channels<'_> {
+    fn bytes(self) -> usize {
+        match self {
+            Channels::Grey | Channels::Palette(_) => 1,
+            Channels::Colour => 3,
+        }
+    }
+
+    /// The number that a picture's head has for it.
+    fn number(self) -> u8 {
+        match self {
+            Channels::Grey => 0,
+            Channels::Colour => 2,
+            Channels::Palette(_) => 3,
+        }
+    }
 }
 
 /// A picture of at least one pixel, row after row.
@@ -16,17 +35,16 @@ pub fn png(width: usize, height: usize, channels: Channels, pixels: &[u8]) -> Ve
     let mut head = Vec::new();
     head.extend((width as u32).to_be_bytes());
     head.extend((height as u32).to_be_bytes());
-    let kind = match channels {
-        Channels::Grey => 0,
-        Channels::Colour => 2,
-    };
-    head.extend([8, kind, 0, 0, 0]);
+    head.extend([8, channels.number(), 0, 0, 0]);
     let mut out = SIGNATURE.to_vec();
     chunk(&mut out, b"IHDR", &head);
+    if let Channels::Palette(colours) = channels {
+        chunk(&mut out, b"PLTE", &colours.concat());
+    }
     chunk(
         &mut out,
         b"IDAT",
-        &stored(&rows(width * channels as usize, pixels)),
+        &stored(&rows(width * channels.bytes(), pixels)),
     );
     chunk(&mut out, b"IEND", &[]);
     out

@@ -5,7 +5,9 @@ use std::time::{Duration, SystemTime, UNIX_EPOCH};
 
 use console::json;
 use frames::Problem;
-use steyrbunk::{PeakFit, Settings};
+use steyrbunk::{PeakFit, Settings, Verdicts};
+
+use crate::output::verdicts;
 
 /// A frame of a run.
 pub struct Record {
@@ -17,6 +19,10 @@ pub struct Record {
     pub camera: Option<usize>,
     pub read: Option<Read>,
     pub end: End,
+    /// What became of its candidates, where that is known.
+    pub verdicts: Option<Verdicts>,
+    /// What that may mean, if it was asked for.
+    pub why: Option<String>,
     pub results: Vec<PathBuf>,
     pub time: Duration,
 }
@@ -83,6 +89,10 @@ impl Record {
             _ => 0,
         };
         fields.push(format!("\"count\":{count}"));
+        fields.push(verdicts(self.verdicts));
+        if let Some(why) = &self.why {
+            fields.push(format!("\"why\":{}", json(why.as_bytes())));
+        }
         if matches!(self.end, End::Gone) {
             fields.push("\"gone\":true".to_string());
         }

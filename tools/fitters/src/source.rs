@@ -4,7 +4,7 @@ use std::path::Path;
 
 use console::LONGEST;
 use frames::Problem;
-use steyrbunk::{arch, record, Refusal};
+use steyrbunk::{arch, record, Refusal, Verdicts};
 
 #[derive(Clone, Copy, PartialEq, Eq)]
 pub enum Source {
@@ -32,6 +32,15 @@ impl Source {
 
     pub fn is_arch(self) -> bool {
         matches!(self, Source::Arch(_))
+    }
+
+    /// What is told of the candidates where there is no list: six zeros of a frame; of a record nothing is known, whether it is taken or
+    /// not.
+    pub fn unsearched(self) -> Option<Verdicts> {
+        match self {
+            Source::Frames | Source::Arch(_) => Some(Verdicts::NONE),
+            Source::Records => None,
+        }
     }
 
     /// Endings of the files that are looked for in folders.

@@ -14,10 +14,12 @@ use steyrbunk::{record, Finder, Found, Image, Refusal};
 use crate::digest::sha256;
 use crate::draw;
 use crate::gather::Frame;
+use crate::marks;
 use crate::options::{Drawing, Options};
 use crate::record::{End, Read, Record};
 use crate::site::Site;
 use crate::source::Source;
+use crate::why;
 
 /// What was made of a frame.
 pub struct Done {
@@ -30,7 +32,7 @@ pub struct Done {
 
 impl Done {
     /// Nothing yet.
-    pub fn new(frame: &Frame) -> Done {
+    pub fn new(frame: &Frame, source: Source) -> Done {
         Done {
             record: Record {
                 name: frame.name.as_os_str().as_encoded_bytes().to_vec(),
@@ -38,6 +40,8 @@ impl Done {
                 camera: frame.camera,
                 read: None,
                 end: End::Gone,
+                verdicts: source.unsearched(),
+                why: None,
                 results: Vec::new(),
                 time: Duration::ZERO,
             },
@@ -107,7 +111,7 @@ pub fn work(
 }
 
 pub struct Worker<'a> {
-    options: &'a Options,
+    pub options: &'a Options,
     site: Option<&'a Site>,
     pub finder: Finder,
 }
@@ -115,7 +119,7 @@ pub struct Worker<'a> {
 impl Worker<'_> {
     fn take_up(&mut self, planned: &Planned) -> Done {
         let started = Instant::now();
-        let mut done = Done::new(planned.frame);
+        let mut done = Done::new(planned.frame, self.options.source);
         let outcome = self.outcome(planned, &mut done);
         self.end(planned.frame, outcome, &mut done);
         done.record.time = started.elapsed();
@@ -125,11 +129,14 @@ impl Worker<'_> {
     /// How a frame ended; where it has no list, what was written of it is taken back.
     pub fn end(&self, frame: &Frame, outcome: Result<Found, Problem>, done: &mut Done) {
         done.record.end = match outcome {
-            Ok(found) => End::Found {
-                width: found.width,
-                height: found.height,
-                count: found.corners.len(),
-            },
+            Ok(found) => {
+                done.record.verdicts = found.verdicts;
+                End::Found {
+                    width: found.width,
+                    height: found.height,
+                    count: found.corners.len(),
+                }
+            }
             Err(problem) => {
                 if let Some(site) = self.site {
                     done.record
@@ -139,21 +146,24 @@ impl Worker<'_> {
                     done.record.results.clear();
                 }
                 done.notes.push(problem.to_string());
-                done.text = self.options.format.problem(frame, &problem).into_bytes();
+                done.text = self.options.problem(frame, &problem).into_bytes();
+                done.record.why = self.options.why.then(why::unsearched);
                 End::Problem(problem)
             }
         };
+        let why = done.record.why.as_ref();
+        done.notes.extend(why.map(|words| format!("why: {words}")));
     }
 
     /// Reads, finds, draws and writes.
     fn outcome(&mut self, planned: &Planned, done: &mut Done) -> Result<Found, Problem> {
         planned.results()?;
         let file = self.read(planned.frame, done)?;
-        let (found, image) = match self.options.source {
+        let (found, opened) = match self.options.source {
             Source::Records => (record::parse(&file)?, None),
             _ => self.found(planned.frame, &file, done)?,
         };
-        self.hand_on(planned, found, image, done)
+        self.hand_on(planned, found, opened, done)
     }
 
     /// The bytes of a frame's file.
@@ -167,18 +177,18 @@ impl Worker<'_> {
         Ok(file)
     }
 
-    /// The corners of a frame, and its picture.
+    /// The corners of a frame, and the frame.
     fn found<'a>(
         &mut self,
         frame: &Frame,
         file: &'a [u8],
         done: &mut Done,
-    ) -> Result<(Found, Option<Image<'a>>), Problem> {
+    ) -> Result<(Found, Option<Opened<'a>>), Problem> {
         let opened = self.opened(frame, file, done)?;
         let found = self.finder.find(opened.image, &opened.settings);
         let found =
             found.map_err(|refusal| directed(advised(refusal, Some(&opened)), frame.spoken()))?;
-        Ok((found, Some(opened.image)))
+        Ok((found, Some(opened)))
     }
 
     /// The picture in a file with the settings that it is searched with.
@@ -204,19 +214,22 @@ impl Worker<'_> {
         Ok(opened)
     }
 
-    /// What was found, as text and into the folder.
+    /// What was found, as text and into the folder; where marks are drawn, the finder's last frame is this one.
     pub fn hand_on(
         &self,
         planned: &Planned,
         found: Found,
-        image: Option<Image>,
+        opened: Option<Opened>,
         done: &mut Done,
     ) -> Result<Found, Problem> {
         let results = planned.results()?;
-        done.text = self.options.format.list(planned.frame, &found)?;
+        done.text = self.options.list(planned.frame, &found)?;
         if let Some(site) = self.site {
-            self.write(site, results, image, &found, done)?;
+            self.write(site, results, opened, &found, done)?;
         }
+        let asked = opened.filter(|_| self.options.why);
+        let told = asked.and_then(|opened| Some(why::words(found.verdicts?, &opened.settings)));
+        done.record.why = told;
         Ok(found)
     }
 
@@ -225,29 +238,41 @@ impl Worker<'_> {
         &self,
         site: &Site,
         results: &[PathBuf],
-        image: Option<Image>,
+        opened: Option<Opened>,
         found: &Found,
         done: &mut Done,
     ) -> Result<(), Problem> {
-        let Options {
-            source,
-            format,
-            drawings,
-            ..
-        } = self.options;
-        let list = [format.head(*source).as_bytes(), &done.text].concat();
-        let mut written = |result: &PathBuf, content: &[u8]| {
+        let list = [self.options.head().as_bytes(), &done.text].concat();
+        let mut results = results.iter();
+        let mut write = |content: &[u8]| {
+            let result = results.next().expect("a name for each result");
             done.record.results.push(result.clone());
             site.write(result, content)
         };
-        written(&results[0], &list)?;
-        let Some(image) = image.filter(|_| !drawings.is_empty()) else {
+        write(&list)?;
+        let Some(Opened { image, .. }) = opened else {
             return Ok(());
         };
-        for (drawing, result) in drawings.iter().zip(&results[1..]) {
-            written(result, &drawn(drawing, image, found))?;
+        for drawing in &self.options.drawings {
+            write(&drawn(drawing, image, found))?;
+        }
+        if self.options.are_marks_drawn() {
+            write(&self.marks(found)?)?;
         }
         Ok(())
+    }
+
+    /// Why pixels are no corners, drawn from the finder's last frame.
+    fn marks(&self, found: &Found) -> Result<Vec<u8>, Problem> {
+        let candidates = self.finder.candidates().zip(found.verdicts);
+        let (candidates, told) = candidates.ok_or("the frame was not searched".to_string())?;
+        let map = self.finder.map();
+        Ok(marks::drawn(
+            &candidates,
+            map.working,
+            (map.width, map.height),
+            told,
+        )?)
     }
 }
 

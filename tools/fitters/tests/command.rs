@@ -347,6 +347,13 @@ const TOO_SMALL: &str =
     "the frame is too small to judge: its working width or height is at most twice \
     (ray + suppression + 1); look at the crop, the camera mode and the radii, not at the panel";
 
+/// The verdicts of a frame that was not searched, as a field of JSON.
+const NONE: &str = "\"verdicts\":{\"not_above\":0,\"beaten\":0,\"too_few\":0,\"too_flat\":0,\
+    \"wrong_curvature\":0,\"kept\":0}";
+/// And of document 01's frame: its one candidate is kept.
+const KEPT: &str = "\"verdicts\":{\"not_above\":0,\"beaten\":0,\"too_few\":0,\"too_flat\":0,\
+    \"wrong_curvature\":0,\"kept\":1}";
+
 /// A grey picture: an empty panel, if it is large enough.
 fn grey(width: usize, height: usize) -> Vec<u8> {
     let head = format!("P5 {width} {height} 255\n");
@@ -384,7 +391,7 @@ fn a_cropped_camera() {
         for told in [
             "\"answer\":15,".to_string(),
             format!("\"words\":\"refused 15: {TOO_SMALL}; {need}\","),
-            "\"count\":0,\"results\":[]".to_string(),
+            format!("\"count\":0,{NONE},\"results\":[]"),
         ] {
             assert!(manifest.contains(&told), "{told}: {manifest}");
         }
@@ -393,7 +400,7 @@ fn a_cropped_camera() {
             "list" => "refused 15\n".to_string(),
             "csv" => "file,corner,x,y,strength\n".to_string(),
             "json" => format!(
-                "{{\"file\":\"frames/dawn.pgm\",\"refused\":15,\"reason\":\"{TOO_SMALL}\"}}\n"
+                "{{\"file\":\"frames/dawn.pgm\",\"refused\":15,\"reason\":\"{TOO_SMALL}\",{NONE}}}\n"
             ),
             _ => String::new(),
         };
@@ -615,9 +622,11 @@ fn csv_and_json() {
     let json = run(&folder, &words("json"));
     assert_eq!(
         out(&json),
-        "{\"file\":\"a, \\\"b\\\".frame\",\"working_width\":7,\"working_height\":7,\"count\":1,\
-         \"corners\":[{\"x\":3,\"y\":3,\"strength\":160000}]}\n\
-         {\"file\":\"refused.frame\",\"refused\":5,\"reason\":\"the ray radius is over 7\"}\n"
+        format!(
+            "{{\"file\":\"a, \\\"b\\\".frame\",\"working_width\":7,\"working_height\":7,\"count\":1,{KEPT},\
+             \"corners\":[{{\"x\":3,\"y\":3,\"strength\":160000}}]}}\n\
+             {{\"file\":\"refused.frame\",\"refused\":5,\"reason\":\"the ray radius is over 7\",{NONE}}}\n"
+        )
     );
     assert_eq!((status(&csv), status(&json)), (1, 1));
     let output = run(&folder, &["--format", "csv", "--beside", "a, \"b\".frame"]);
@@ -700,13 +709,14 @@ fn records_of_frames() {
                 fed(&folder, &["read", "--format", format, "-"], &kept.stdout),
             ] {
                 assert_eq!((status(&read), error(&read)), (0, String::new()));
-                // A record has its own name for the frame's.
+                // A record has its own name for the frame's, and no verdicts.
                 let text = String::from_utf8_lossy(&read.stdout);
                 let text = text
                     .replace(&record, &name)
                     .replace("standard input", &name);
                 let same = match format {
                     "record" => read.stdout == expected,
+                    "json" => text == unknown(&expected),
                     _ => text.as_bytes() == expected,
                 };
                 assert!(same, "{name} as {format}: {text}");
@@ -714,6 +724,14 @@ fn records_of_frames() {
         }
     }
     assert!(refusals < 8 && most > 2_000, "{refusals} {most}");
+}
+
+/// A list in JSON whose verdicts are not known.
+fn unknown(json: &[u8]) -> String {
+    let json = String::from_utf8_lossy(json);
+    let (before, rest) = json.split_once("\"verdicts\":{").unwrap();
+    let (_, behind) = rest.split_once('}').unwrap();
+    format!("{before}\"verdicts\":null{behind}")
 }
 
 /// A folder of frames kept and read back: the same lists as from the frames, by the same rules.
@@ -896,7 +914,7 @@ fn damaged_records() {
     fs::write(folder.join("bad.record"), b"").unwrap();
     for (format, text) in [
         ("csv", "file,corner,x,y,strength\n"),
-        ("json", "{\"file\":\"bad.record\",\"refused\":16,\"reason\":\"the record has under 13 bytes or not the length that it states\"}\n"),
+        ("json", "{\"file\":\"bad.record\",\"refused\":16,\"reason\":\"the record has under 13 bytes or not the length that it states\",\"verdicts\":null}\n"),
         ("record", ""),
     ] {
         let output = run(&folder, &["read", "--format", format, "bad.record"]);
@@ -977,12 +995,16 @@ fn four_printed() -> [(&'static str, String); 3] {
             "{{\"camera\":{camera},\"file\":\"{file}\",\"working_width\":7,\"working_height\":7,"
         )
     };
+    let corner =
+        format!("\"count\":1,{KEPT},\"corners\":[{{\"x\":3,\"y\":3,\"strength\":160000}}]}}\n");
+    let none = KEPT
+        .replace("\"kept\":1", "\"kept\":0")
+        .replace("\"not_above\":0", "\"not_above\":1");
     let json = [
-        list(1, "d.frame") + "\"count\":1,\"corners\":[{\"x\":3,\"y\":3,\"strength\":160000}]}\n",
-        "{\"camera\":2,\"file\":\"b.frame\",\"refused\":5,\"reason\":\"the ray radius is over 7\"}\n"
-            .to_string(),
-        list(3, "a.pgm") + "\"count\":1,\"corners\":[{\"x\":3,\"y\":3,\"strength\":160000}]}\n",
-        list(4, "c.frame") + "\"count\":0,\"corners\":[]}\n",
+        list(1, "d.frame") + &corner,
+        format!("{{\"camera\":2,\"file\":\"b.frame\",\"refused\":5,\"reason\":\"the ray radius is over 7\",{NONE}}}\n"),
+        list(3, "a.pgm") + &corner,
+        list(4, "c.frame") + &format!("\"count\":0,{none},\"corners\":[]}}\n"),
     ];
     [
         (
@@ -1497,6 +1519,10 @@ fn help_and_wrong_words() {
         &["read", "--quiet"],
         &["read", "--nothing", "a"],
         &["read", "--draw", "svg", "--out", "x", "a"],
+        &["read", "--why", "a"],
+        &["--why=yes", "a"],
+        &["--why", "--draw", "png", "a"],
+        &["frame", "--why", "a"],
         &["read", "--ray-radius", "4", "a"],
         &["read", "--threshold-rel", "nan", "a"],
         &["read", "--override", "a"],
