@@ -228,7 +228,9 @@ impl Course {
     /// By runs that nothing disturbs.
     fn new(folder: &Path, words: &[&'static str], sources: [Files; 2]) -> Course {
         let words = words.to_vec();
-        let each = if words.contains(&"--draw") { 2 } else { 1 };
+        // A list, a drawing, and the marks.
+        let asked = |word: &str| usize::from(words.contains(&word));
+        let each = 1 + asked("--draw") + asked("--why");
         let (from, lists) = if words.contains(&"arch") {
             ("arch", CAMERAS)
         } else {
@@ -265,7 +267,7 @@ fn write_all(folder: &Path, files: &Files) {
 }
 
 /// Lists and drawings of frames, their records, and the lists of these; lists and drawings of an arch by the names of its
-/// files, and records of one in one file.
+/// files, and records of one in one file; lists, drawings and marks of frames.
 fn courses(folder: &Path) -> [Course; KINDS] {
     let of_days = |write: fn(&Path, usize), name: &str| {
         [0, 1].map(|day| {
@@ -280,8 +282,12 @@ fn courses(folder: &Path) -> [Course; KINDS] {
     let read = [
         "read", "--out", "lists", "--format", "csv", "--quiet", "frames",
     ];
+    let why = [
+        "--out", "lists", "--draw", "svg", "--why", "--quiet", "frames",
+    ];
     let lists = Course::new(folder, &lists, days.clone());
-    let records = Course::new(folder, &records, days);
+    let records = Course::new(folder, &records, days.clone());
+    let why = Course::new(folder, &why, days);
     let read = Course::new(folder, &read, records.results.clone());
     let by_name = [
         &["arch", "--out", "lists", "--draw", "svg", "--quiet"][..],
@@ -301,12 +307,11 @@ fn courses(folder: &Path) -> [Course; KINDS] {
     ];
     let by_name = Course::new(folder, &by_name, arches.clone());
     let together = Course::new(folder, &together, arches);
-    [lists, records, read, by_name, together]
+    [lists, records, read, by_name, together, why]
 }
 
-/// Courses, and the turns in which they are killed: a third of the points is for lists of frames.
-const KINDS: usize = 5;
-const TURNS: [usize; 6] = [0, 1, 3, 0, 2, 4];
+/// Courses, which are killed in turn.
+const KINDS: usize = 6;
 
 /// Killed at many points of a run over yesterday's results: by SIGKILL and by SIGINT.
 #[test]
@@ -317,7 +322,7 @@ fn killed_anywhere() {
     let lists = at.join("lists");
     let (mut cut, mut before, mut between, mut after) = ([0; KINDS], 0, [0; KINDS], 0);
     for point in 0..2 * POINTS {
-        let kind = TURNS[point / 2 % TURNS.len()];
+        let kind = point / 2 % KINDS;
         let Course {
             words,
             from,
@@ -361,13 +366,13 @@ fn killed_anywhere() {
         assert_eq!(names, ["run.json"]);
     }
     println!(
-        "{} points: runs cut off {cut:?} (lists, records, records read, arch by name, arch in one file); yesterday's manifest \
-         still there {before} times, none {between:?} times, today's {after} times",
+        "{} points: runs cut off {cut:?} (lists, records, records read, arch by name, arch in one file, marks); yesterday's \
+         manifest still there {before} times, none {between:?} times, today's {after} times",
         2 * POINTS
     );
-    for (kind, share) in [(0, 3), (1, 6), (2, 6), (3, 6), (4, 6)] {
+    for kind in 0..KINDS {
         assert!(
-            cut[kind] > POINTS / 2 / share && between[kind] > POINTS / 4 / share,
+            cut[kind] > POINTS / 2 / KINDS && between[kind] > POINTS / 4 / KINDS,
             "the points do not lie inside the runs: {cut:?}, {between:?}"
         );
     }
@@ -383,6 +388,8 @@ fn a_full_disk() {
     let kept = ["--out", "kept", "--quiet", "--format", "record", "frames"];
     assert_eq!(status(&run(&folder, &kept)), 0);
     let by_name = format!("arch {}", ARCH.join(" "));
+    let marks = "--draw svg --why frames/two";
+    let some_marks = "--draw svg --why frames/two/000.pgm frames/two/004.pgm";
     let calls = [
         ("frames/two", "--draw svg frames", 2 * FRAMES),
         (
@@ -391,7 +398,7 @@ fn a_full_disk() {
             2 * FRAMES,
         ),
         (&by_name, &format!("{by_name} --draw svg"), 2 * CAMERAS),
-        ("frames/two", "--draw svg frames", 2 * FRAMES),
+        (some_marks, marks, 3 * FRAMES / 4),
         (
             "--format record frames/two",
             "read --format json kept",
@@ -408,12 +415,17 @@ fn a_full_disk() {
         sizes += 1;
         let kind = kilobytes / 8 % calls.len();
         let (yesterday, today, results_of_all) = calls[kind];
+        // Drawings of marks are larger.
+        let (first, kilobytes) = match today == marks {
+            true => (2_048.max(16 * kilobytes), 16 * kilobytes),
+            false => (1_024, kilobytes),
+        };
         // Yesterday's lists stand on the disk; then it is made smaller than today's lists are.
         let script = format!(
-            "mount -t tmpfs -o size=1m tmpfs lists && '{BINARY}' {yesterday} --quiet --out lists >/dev/null 2>&1 \
+            "mount -t tmpfs -o size={first}k tmpfs lists && '{BINARY}' {yesterday} --quiet --out lists >/dev/null 2>&1 \
              && mount -o remount,size={kilobytes}k lists; '{BINARY}' {today} --quiet --out lists 2>message; \
              echo status $?; cd lists; find . -type f | sort; echo ---; cat run.json 2>/dev/null; echo ---; cat run.plan 2>/dev/null; \
-             cd ..; mount -o remount,size=8m lists; '{BINARY}' {today} --quiet --out lists; echo again $?; ls lists | grep -c part"
+             cd ..; mount -o remount,size=16m lists; '{BINARY}' {today} --quiet --out lists; echo again $?; ls lists | grep -c part"
         );
         let output = Command::new("unshare")
             .args(["-r", "-m", "sh", "-c", &script])
