@@ -3,8 +3,8 @@
 
 use steyrbunk::{PeakFit, Settings, Verdict, Verdicts};
 
-/// Beaten places for each peak. A sharp panel has some 28; what is blurred, or too small to be seen, has more than the first of these,
-/// and a picture that is hardly more than noise may have fewer than the second.
+/// Beaten places for each peak. A sharp panel has 20 to 30. What is blurred, or too small to be seen, may have the first of these or
+/// more, and a picture that is hardly more than noise fewer than the second.
 const BROAD: usize = 50;
 const NARROW: usize = 10;
 
@@ -13,10 +13,10 @@ const THRESHOLD: &str =
     "a threshold of 1 leaves nothing above the floor, whatever the picture shows";
 const OTHER_SETTINGS: &str =
     "what counts say together is known for the default radii and threshold alone, and these are others";
-const FAINT: &str = "peaks too flat or narrow: the picture may be faint, as by haze, a film on the lens or too little light, and much that is kept may be noise";
+const FAINT: &str = "peaks too flat or narrow: the picture may be faint or glaring, as by haze, a film on the lens, too little light or too much, and much that is kept may be noise";
 const EDGES: &str = "wrong curvature: edges or spots besides corners, as by specks, glare, something before the panel, or a panel turned far away";
 const NO_SIGN: &str = "no sign of blur, haze, specks or glare";
-const KEPT: &str = "fewer kept than the panel has corners: look at the aim, then at what hides or blurs a part of it; more kept: at dirt and at other things in the picture";
+const KEPT: &str = "fewer kept than the panel has corners: look at the aim, then at what hides or blurs a part of it; many more: at dirt, light and other things in the picture";
 
 /// A number as the documents write it: 8,388,608.
 pub fn counted(number: usize) -> String {
@@ -89,7 +89,7 @@ fn signs(verdicts: Verdicts) -> Vec<String> {
     let peaks = verdicts.total() - verdicts.not_above - verdicts.beaten;
     let each = verdicts.beaten / peaks.max(1);
     let broad = format!(
-        "broad peaks ({each} beaten for each, some 28 at a sharp panel): out of focus or a film on the lens; with few kept, a panel too far off or turned too far away"
+        "broad peaks ({each} beaten for each, 20 to 30 at a sharp panel): out of focus or a film on the lens; with few kept, a panel too far off or turned too far away"
     );
     let signs = [
         (each >= BROAD, broad),
@@ -131,7 +131,7 @@ mod tests {
     #[test]
     fn signs_by_counts() {
         let of = |counts| said_of(counts, Settings::default());
-        let broad = "broad peaks (68 beaten for each, some 28 at a sharp panel)";
+        let broad = "broad peaks (68 beaten for each, 20 to 30 at a sharp panel)";
         assert_eq!(of([1_000, 0, 0, 0, 0, 0]), [NOTHING]);
         assert_eq!(of([1_000, 280, 0, 0, 0, 10]), [NO_SIGN, KEPT]);
         assert_eq!(of([1_000, 499, 0, 0, 0, 10]), [NO_SIGN, KEPT]);

@@ -3,16 +3,21 @@
 
 mod scenes;
 
+use std::collections::HashMap;
 use std::fs;
 use std::path::Path;
+use std::sync::OnceLock;
 
 use scenes::{scenes, Scene, HEIGHT, WIDTH};
 use steyrbunk::{Finder, Found, Image, Settings, Verdicts};
 
 /// How far a corner may lie from where it was drawn, in input pixels.
 const NEAR: f64 = 1.5;
-/// Variants of each frame that the conclusions are held to.
-const VARIANTS: u32 = 3;
+/// Variants of each frame that the conclusions are held to, each turned further in the picture: from 5° to 27°.
+const VARIANTS: u32 = 6;
+const ALL: usize = VARIANTS as usize;
+/// Those that are turned by 14° at most.
+const UPRIGHT: usize = 3;
 
 fn searched(scene: &Scene) -> Found {
     let pixels = scene.pixels();
@@ -81,76 +86,109 @@ fn the_table() {
     assert_eq!(after.take_while(measured).count(), rows.len());
 }
 
-/// What holds of the scenes of these names, in every variant.
-fn hold(names: &[&str], holds: impl Fn(&Verdicts) -> bool) {
-    for variant in 0..VARIANTS {
-        let all = scenes(variant);
+/// The counts of every scene by its name, a map for each variant; measured once for all tests.
+fn measured() -> &'static [HashMap<&'static str, Verdicts>] {
+    static MEASURED: OnceLock<Vec<HashMap<&'static str, Verdicts>>> = OnceLock::new();
+    let counts = |scene: &Scene| (scene.name, searched(scene).verdicts.expect("searched"));
+    let variant = |variant| scenes(variant).iter().map(counts).collect();
+    MEASURED.get_or_init(|| (0..VARIANTS).map(variant).collect())
+}
+
+/// What holds of the scenes of these names, in so many variants.
+fn hold(variants: usize, names: &[&str], holds: impl Fn(&Verdicts) -> bool) {
+    for (variant, measured) in measured().iter().enumerate().take(variants) {
         for name in names {
-            let scene = all.iter().find(|scene| scene.name == *name);
-            let found = searched(scene.expect("a scene of that name"));
-            let verdicts = found.verdicts.expect("searched");
-            assert!(holds(&verdicts), "{name}, variant {variant}: {verdicts:?}");
+            let verdicts = &measured[name];
+            assert!(holds(verdicts), "{name}, variant {variant}: {verdicts:?}");
         }
     }
 }
 
-/// What `--why` goes by, and where it does not tell two things apart.
+fn is_broad(verdicts: &Verdicts) -> bool {
+    beaten_each(verdicts).is_some_and(|each| each >= 50)
+}
+
+fn is_faint(verdicts: &Verdicts) -> bool {
+    verdicts.too_flat > 0 || beaten_each(verdicts).is_some_and(|each| each < 10)
+}
+
+/// What has no sign of anything: a panel that is whole, or of which a part is outside; and, not to be told from these, one of which a part
+/// is blurred.
 #[test]
-fn conclusions() {
-    let plain = |verdicts: &Verdicts| {
-        let none = verdicts.too_few + verdicts.too_flat + verdicts.wrong_curvature == 0;
-        none && beaten_each(verdicts).is_some_and(|each| each < 50)
-    };
-    hold(
-        &[
-            "sharp",
-            "haze, contrast 40",
-            "turned away, 60°",
-            "turned away, 75°",
-            "a quarter outside",
-            "two thirds outside",
-            "far away, squares of 6",
-            "far away, squares of 3",
-            // The counts do not tell these from a panel that is partly outside.
-            "blurred much, its left half",
-        ],
-        plain,
-    );
-    let broad = |verdicts: &Verdicts| beaten_each(verdicts).is_some_and(|each| each >= 50);
-    hold(
-        &[
-            "blurred a little",
-            "blurred",
-            "blurred much",
-            "turned away, 85°",
-            "far away, squares of 2",
-            "no panel, boxes and beams",
-        ],
-        broad,
-    );
-    hold(
-        &[
-            "haze, contrast 3",
-            "haze, contrast 2",
-            "no panel, plain grey",
-            "black",
-        ],
-        |verdicts| verdicts.too_flat > 0 || beaten_each(verdicts).is_some_and(|each| each < 10),
-    );
-    hold(
-        &[
-            "300 specks",
-            "1,000 specks",
-            "glare on a tenth",
-            "glare on a third",
-            "a beam before it",
-            "turned away, 82°",
-            "turned away, 85°",
-            "no panel, boxes and beams",
-        ],
-        |verdicts| verdicts.wrong_curvature > 0,
-    );
-    hold(&["black, no noise"], |verdicts| {
+fn no_sign() {
+    let names = [
+        "sharp",
+        "haze, contrast 40",
+        "turned away, 60°",
+        "turned away, 75°",
+        "a quarter outside",
+        "two thirds outside",
+        "far away, squares of 6",
+        "far away, squares of 3",
+        "blurred much, its left half",
+    ];
+    hold(ALL, &names, |verdicts| {
+        let none = verdicts.too_few + verdicts.wrong_curvature == 0;
+        none && !is_broad(verdicts) && !is_faint(verdicts)
+    });
+    let whole = [
+        "sharp",
+        "haze, contrast 40",
+        "turned away, 75°",
+        "far away, squares of 6",
+    ];
+    hold(ALL, &whole, |verdicts| {
+        (20..30).contains(&beaten_each(verdicts).unwrap_or(0)) && verdicts.kept >= 48
+    });
+}
+
+/// Broad peaks: blur, where the panel is not turned far, and panels that are too small to be seen.
+#[test]
+fn broad_peaks() {
+    let blurred = ["blurred a little", "blurred", "blurred much"];
+    hold(UPRIGHT, &blurred, |verdicts| {
+        is_broad(verdicts) && verdicts.kept >= 48
+    });
+    let small = [
+        "turned away, 85°",
+        "far away, squares of 2",
+        "no panel, boxes and beams",
+    ];
+    hold(ALL, &small, |verdicts| {
+        is_broad(verdicts) && verdicts.kept < 24
+    });
+}
+
+/// Faint pictures, and how much of noise is kept there.
+#[test]
+fn faint_pictures() {
+    let names = [
+        "haze, contrast 3",
+        "haze, contrast 2",
+        "no panel, plain grey",
+        "black",
+    ];
+    hold(ALL, &names, |verdicts| {
+        is_faint(verdicts) && verdicts.kept > 3 * 48
+    });
+    hold(ALL, &["black, no noise"], |verdicts| {
         verdicts.not_above == verdicts.total()
     });
+}
+
+/// Edges and spots besides corners.
+#[test]
+fn edges() {
+    let names = [
+        "60 specks",
+        "300 specks",
+        "1,000 specks",
+        "glare on a tenth",
+        "glare on a third",
+        "a beam before it",
+        "turned away, 82°",
+        "turned away, 85°",
+        "no panel, boxes and beams",
+    ];
+    hold(ALL, &names, |verdicts| verdicts.wrong_curvature > 0);
 }

@@ -269,12 +269,12 @@ fn counted(counts: [u64; 6]) -> String {
 fn words() {
     let folder = folder("words");
     let kept = "; fewer kept than the panel has corners: look at the aim, then at what hides or blurs a part of it; \
-                more kept: at dirt and at other things in the picture";
-    let faint = "peaks too flat or narrow: the picture may be faint, as by haze, a film on the lens or too little light, \
-                 and much that is kept may be noise";
+                many more: at dirt, light and other things in the picture";
+    let faint = "peaks too flat or narrow: the picture may be faint or glaring, as by haze, a film on the lens, \
+                 too little light or too much, and much that is kept may be noise";
     let edges = "wrong curvature: edges or spots besides corners, as by specks, glare, something before the panel, \
                  or a panel turned far away";
-    let broad = "broad peaks (168 beaten for each, some 28 at a sharp panel): out of focus or a film on the lens; \
+    let broad = "broad peaks (168 beaten for each, 20 to 30 at a sharp panel): out of focus or a film on the lens; \
                  with few kept, a panel too far off or turned too far away";
     let nothing = "nothing stands out: look for a cover, darkness or plain grey before the lens, \
                    or for something strong at the very edge";
