@@ -3,6 +3,7 @@
 mod common;
 
 use common::{frame, image, Lent, DOCUMENT};
+use judge::random::Random;
 use judge::{document_frame, Kind};
 use steyrbunk::frame::Frame;
 use steyrbunk::lent::{self, View};
@@ -275,6 +276,62 @@ fn the_lists_own_entry() {
     let refused = Finder::new().peaks(small, &settings);
     assert_eq!(refused, Err(Refusal::FrameTooSmall));
     assert_eq!(Candidates::new(small, &settings).iter().count(), 0);
+}
+
+/// Maps that no frame has, with numbers below 0, infinite ones and what is none: the six are those of the candidates one by one, still.
+#[test]
+fn strange_maps() {
+    let strange = [
+        f32::NAN,
+        f32::INFINITY,
+        f32::NEG_INFINITY,
+        -1.0,
+        -0.0,
+        0.0,
+        1e-45,
+        1.0,
+        2.0,
+        f32::MAX,
+    ];
+    let mut seen = [0; 6];
+    for index in 0..3_000 {
+        let random = &mut Random::new(25, index);
+        let (width, height) = (random.range(7, 20), random.range(7, 20));
+        // A few kinds of numbers in a map, so that not all of it is below an infinite floor.
+        let kinds: Vec<f32> = (0..random.range(1, 4))
+            .map(|_| random.pick(&strange))
+            .collect();
+        let response: Vec<f32> = (0..width * height).map(|_| random.pick(&kinds)).collect();
+        let steps = random.pick(&[1, 2, 256]);
+        let pixel = |_| random.below(steps) as u8;
+        let working: Vec<u8> = (0..width * height).map(pixel).collect();
+        let view = View {
+            response: &response,
+            working: &working,
+            width,
+            height,
+        };
+        let settings = Settings {
+            threshold_rel: random.pick(&[0.0, -0.0, 0.28, 1.0]),
+            nms_radius: random.pick(&[0, 1]),
+            min_cluster_size: random.pick(&[0, 2, 5]),
+            ..DOCUMENT
+        };
+        let answer = lent::peaks(view, &settings, &mut []);
+        assert!(answer.number <= 1 && answer.verdicts.kept == answer.count);
+        assert_eq!(
+            answer.verdicts.total(),
+            candidates(width, height, &settings)
+        );
+        assert_eq!(
+            Candidates::new(view, &settings).count(),
+            answer.verdicts,
+            "{index}"
+        );
+        let counts = answer.verdicts.counts().into_iter();
+        seen.iter_mut().zip(counts).for_each(|(sum, n)| *sum += n);
+    }
+    assert!(seen.iter().all(|n| *n > 100), "{seen:?}");
 }
 
 /// Any pixel, of any view, has a verdict: none is read that is not there.
