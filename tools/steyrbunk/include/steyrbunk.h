@@ -2,11 +2,11 @@
  *
  * steyrbunk_corners does everything; steyrbunk_response makes the map alone, and steyrbunk_detect_peaks
  * makes the list of a map. steyrbunk_run_arch does everything for all cameras of an arch, from their frame
- * files. steyrbunk_verdict says of one pixel of a map why it is no corner, or that it is one.
- * steyrbunk_write_record makes a record of a list, bytes to be kept, and steyrbunk_read_record the list
- * of a record. They allocate nothing, keep nothing between calls, and may run at the same time on
+ * files. steyrbunk_write_record makes a record of a list, bytes to be kept, and steyrbunk_read_record the
+ * list of a record. They allocate nothing, keep nothing between calls, and may run at the same time on
  * different buffers. The caller lends every buffer. steyrbunk_sqrt and steyrbunk_ln are the root and the
- * logarithm that the finder takes.
+ * logarithm that the finder takes. For the verdict on one pixel see steyrbunk_verdict.h: it is in an
+ * archive of its own, and what is here needs this one alone.
  *
  * Names. A function that writes more than it did has a new name, and the old name is gone: a program that
  * was built for the old one does not link, where it would else be written through a pointer that it never
@@ -101,8 +101,9 @@ extern "C" {
 #define STEYRBUNK_GAUSSIAN 1u
 
 /* The verdicts on a candidate: the first rule that it fails, in the order in which they are tried, or that it is
- * kept. These are the places of the counts in verdicts, and the answers of steyrbunk_verdict. With the answers 0 and
- * 1 the six counts add up to all candidates, of which there is at least one; with a refusal all six are 0. */
+ * kept. These are the places of the counts in verdicts, and the answers of steyrbunk_verdict, in steyrbunk_verdict.h.
+ * With the answers 0 and 1 the six counts add up to all candidates, of which there is at least one; with a refusal
+ * all six are 0. */
 enum {
     STEYRBUNK_NOT_ABOVE = 0,       /* its value is not above the floor */
     STEYRBUNK_BEATEN = 1,          /* a value in its window is greater */
@@ -177,21 +178,6 @@ uint32_t steyrbunk_detect_peaks(
     float *list, size_t list_len,
     size_t *count,
     size_t verdicts[6]
-);
-
-/* The verdict on one pixel of a map, for a drawing: STEYRBUNK_NOT_ABOVE to STEYRBUNK_KEPT, by the rules and the order
- * by which the candidates are counted. Over all candidates these verdicts are the counts. It takes any numbers: where
- * the window does not lie in the map the answer is STEYRBUNK_NOT_ABOVE, and where the disk of the saddle test does not
- * lie in the image STEYRBUNK_TOO_FLAT, if the other rules pass it. */
-uint32_t steyrbunk_verdict(
-    const float *response, size_t response_len, /* the map, */
-    const uint8_t *image, size_t image_len,     /* the working image that belongs to it, */
-    size_t w, size_t h,                         /* W and H of both */
-    uint32_t ray_radius,
-    uint32_t nms_radius,
-    uint32_t min_cluster_size,
-    float floor,                                /* taken once for a map: see above, and steyrbunk_floor of steyrbunk_easy.h */
-    size_t x, size_t y                          /* the pixel's column and row, from 0 */
 );
 
 /* What a camera of an arch is told: as steyrbunk_corners tells its answer, count, W, H and verdicts. */

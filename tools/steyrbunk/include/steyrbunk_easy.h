@@ -11,11 +11,6 @@
  *     if (answer > 1) fprintf(stderr, "refused %u: %s\n", answer, steyrbunk_words(answer));
  *     for (size_t i = 0; i < STEYRBUNK_VERDICTS; i++) printf("%zu %s\n", verdicts[i], steyrbunk_verdict_words(i));
  *
- * and, with an answer of 0 or 1, the verdict on each candidate, x and y from steyrbunk_border(&settings) on:
- *
- *     float floor = steyrbunk_floor_in(workspace, bytes, width, height, &settings);
- *     uint32_t verdict = steyrbunk_verdict_in(workspace, bytes, width, height, &settings, floor, x, y);
- *
  * and, where the answer was 0, to keep what was found and to read it back:
  *
  *     uint8_t *record = malloc(STEYRBUNK_RECORD_BYTES(count));
@@ -142,32 +137,6 @@ static inline uint32_t steyrbunk_find_in(
     size_t verdicts[STEYRBUNK_VERDICTS];
     return steyrbunk_corners_in(
         image, image_len, width, height, settings, workspace, workspace_len, list, list_len, count, verdicts);
-}
-
-/* The floor of a map: what a candidate's value must be above. */
-static inline float steyrbunk_floor(const float *response, size_t pixels, float threshold_rel) {
-    float greatest = 0;
-    for (size_t at = 0; at < pixels; at++) greatest = greatest < response[at] ? response[at] : greatest;
-    return threshold_rel * greatest;
-}
-
-/* The same of the map that steyrbunk_corners_in left in a workspace, with an answer of 0 or 1. */
-static inline float steyrbunk_floor_in(
-    void *workspace, size_t workspace_len, size_t width, size_t height, const steyrbunk_settings *settings) {
-    size_t entries = steyrbunk_lent(workspace_len, width, height, settings);
-    return steyrbunk_floor(steyrbunk_apart(workspace, entries).response, entries, settings->threshold_rel);
-}
-
-/* The verdict on a pixel of that map, in working pixels, with its floor. */
-static inline uint32_t steyrbunk_verdict_in(
-    void *workspace, size_t workspace_len, size_t width, size_t height, const steyrbunk_settings *settings,
-    float floor, size_t x, size_t y) {
-    size_t entries = steyrbunk_lent(workspace_len, width, height, settings);
-    steyrbunk_parts in = steyrbunk_apart(workspace, entries);
-    return steyrbunk_verdict(
-        in.response, entries, in.working, entries, steyrbunk_working_side(width, settings),
-        steyrbunk_working_side(height, settings), settings->ray_radius, settings->nms_radius,
-        settings->min_cluster_size, floor, x, y);
 }
 
 /* A number of a frame file, the highest of its bytes first. */

@@ -1,5 +1,6 @@
-//! The C interface of the static library, argument for argument as in `include/steyrbunk.h`. An entry that tells more than it did has a
-//! new name there, so that what was built for the old one does not link.
+//! The C interface of the static libraries, argument for argument as in `include/steyrbunk.h` and, for the verdict on one pixel, in
+//! `include/steyrbunk_verdict.h`. An entry that tells more than it did has a new name there, so that what was built for the old one does
+//! not link.
 
 /// An entry that takes the buffers; what else it takes stands before them and behind.
 macro_rules! entry {

@@ -1,4 +1,4 @@
-//! The header and the C example: compiled, linked with the archive, and run.
+//! The headers and the C example: compiled, linked with the archives that they need, and run.
 
 mod common;
 
@@ -12,13 +12,16 @@ use common::{frame, image};
 use judge::{Frame, Kind};
 use steyrbunk::{arch, limits, record, Finder, PeakFit, Refusal, Settings, Verdict, Verdicts};
 
-/// The example as a program.
+const FINDER: &str = env!("STEYRBUNK_ARCHIVE");
+const VERDICT: &str = env!("STEYRBUNK_VERDICT_ARCHIVE");
+
+/// The example as a program. It finds corners, so the finder's archive is all that it needs.
 fn compiled(name: &str) -> Option<PathBuf> {
-    built(name, "examples/corners.c")
+    built(name, "examples/corners.c", &[FINDER])
 }
 
 /// A C file as a program, with the sanitizers if this compiler has them; nothing without a compiler.
-fn built(name: &str, file: &str) -> Option<PathBuf> {
+fn built(name: &str, file: &str, archives: &[&str]) -> Option<PathBuf> {
     let package = Path::new(env!("CARGO_MANIFEST_DIR"));
     let program = Path::new(env!("CARGO_TARGET_TMPDIR")).join(name);
     let with = |flags: &[&str]| {
@@ -35,7 +38,7 @@ fn built(name: &str, file: &str) -> Option<PathBuf> {
         cc.arg("-I")
             .arg(package.join("include"))
             .arg(package.join(file));
-        cc.arg(env!("STEYRBUNK_ARCHIVE"))
+        cc.args(archives)
             .args(["-lm", "-o"])
             .arg(&program)
             .output()
@@ -173,19 +176,21 @@ fn counted(verdicts: Verdicts) -> Vec<u8> {
     Verdict::ALL.map(line).concat().into_bytes()
 }
 
+/// Whether a program that calls a function links with these archives; nothing without a compiler.
+fn links(name: &str, archives: &[&str]) -> Option<bool> {
+    let file = Path::new(env!("CARGO_TARGET_TMPDIR")).join(format!("{name}.{}.c", archives.len()));
+    let text = format!("void {name}(void); int main(void) {{ {name}(); return 0; }}\n");
+    fs::write(&file, text).expect("written");
+    let mut cc = Command::new(env::var("CC").unwrap_or("cc".to_string()));
+    let cc = cc.arg(&file).args(archives);
+    let output = cc.args(["-lm", "-o"]).arg(file.with_extension("out"));
+    output.output().ok().map(|output| output.status.success())
+}
+
 /// What was built for a function that told less must not link, lest it be written through a pointer that it never passed.
 #[test]
 fn old_names_do_not_link() {
-    let linked = |name: &str| {
-        let file = Path::new(env!("CARGO_TARGET_TMPDIR")).join(format!("{name}.c"));
-        let text = format!("void {name}(void); int main(void) {{ {name}(); return 0; }}\n");
-        fs::write(&file, text).expect("written");
-        let mut cc = Command::new(env::var("CC").unwrap_or("cc".to_string()));
-        let cc = cc.arg(&file).arg(env!("STEYRBUNK_ARCHIVE"));
-        let output = cc.args(["-lm", "-o"]).arg(file.with_extension("out"));
-        output.output().ok().map(|output| output.status.success())
-    };
-    if linked("steyrbunk_corners").is_none() {
+    if links("steyrbunk_corners", &[FINDER]).is_none() {
         eprintln!("no C compiler: skipped");
         return;
     }
@@ -194,15 +199,28 @@ fn old_names_do_not_link() {
         ("peaks", "detect_peaks"),
         ("arch", "run_arch"),
     ] {
-        assert_eq!(linked(&format!("steyrbunk_{new}")), Some(true), "{new}");
-        assert_eq!(linked(&format!("steyrbunk_{old}")), Some(false), "{old}");
+        let linked = |name| links(&format!("steyrbunk_{name}"), &[FINDER]);
+        assert_eq!(linked(new), Some(true), "{new}");
+        assert_eq!(linked(old), Some(false), "{old}");
     }
 }
 
-/// Every answer through the header's easy calls, over workspaces of every length about the right one.
+/// In the finder's archive it would be a second caller of the rules, which are then not compiled into the scan.
+#[test]
+fn the_verdict_has_an_archive_of_its_own() {
+    let linked = |archives: &[&str]| links("steyrbunk_verdict", archives);
+    if linked(&[]).is_none() {
+        eprintln!("no C compiler: skipped");
+        return;
+    }
+    assert_eq!(linked(&[FINDER]), Some(false));
+    assert_eq!(linked(&[FINDER, VERDICT]), Some(true));
+}
+
+/// Every answer through the header's easy calls, over workspaces of every length about the right one, and the verdict on each pixel.
 #[test]
 fn the_easy_calls() {
-    let Some(program) = built("easy", "tests/easy.c") else {
+    let Some(program) = built("easy", "tests/easy.c", &[FINDER, VERDICT]) else {
         eprintln!("no C compiler: skipped");
         return;
     };
@@ -272,11 +290,7 @@ fn python() {
     let linked = Command::new("cc")
         .args(["-shared", "-o"])
         .arg(&library)
-        .args([
-            "-Wl,--whole-archive",
-            env!("STEYRBUNK_ARCHIVE"),
-            "-Wl,--no-whole-archive",
-        ])
+        .args(["-Wl,--whole-archive", FINDER, "-Wl,--no-whole-archive"])
         .output();
     let linked = linked.expect("a C compiler");
     assert!(
@@ -310,15 +324,14 @@ fn read(name: &str) -> String {
     fs::read_to_string(package.join(name)).expect("it is there")
 }
 
-/// Name, order and type of every argument are the same in the header and in the Rust declarations.
+/// Name, order and type of every argument are the same in the headers and in the Rust declarations.
 #[test]
-fn the_header_and_the_declarations() {
+fn the_headers_and_the_declarations() {
     let (header, raw) = (read("include/steyrbunk.h"), read("src/raw.rs"));
     for name in [
         "corners",
         "response",
         "detect_peaks",
-        "verdict",
         "run_arch",
         "write_record",
         "read_record",
@@ -329,6 +342,8 @@ fn the_header_and_the_declarations() {
     for name in ["steyrbunk_sqrt", "steyrbunk_ln"] {
         assert_eq!(in_c(&header, "float ", name), in_rust(&raw, name));
     }
+    let (header, name) = (read("include/steyrbunk_verdict.h"), "steyrbunk_verdict");
+    assert_eq!(in_c(&header, "uint32_t ", name), in_rust(&raw, name));
 }
 
 /// The header's limits and defaults are Rust's.

@@ -1,10 +1,10 @@
 /* Every answer through steyrbunk_easy.h: workspaces, records and arches of the right length and one byte less, and what they
- * held before; the six verdicts with each, and of each pixel. */
+ * held before; the six verdicts with each, and through steyrbunk_verdict.h of each pixel. */
 #include <stdio.h>
 #include <stdlib.h>
 #include <string.h>
 
-#include "steyrbunk_easy.h"
+#include "steyrbunk_verdict.h"
 
 static int wrong = 0;
 
