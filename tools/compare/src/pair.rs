@@ -249,8 +249,8 @@ impl Pair {
         let ours = self.ours.arch(cameras, frames);
         let ours = ours.expect("a camera count that is taken");
         // Once more with room for one corner each, for what is told to those that are refused, or have more.
-        let mut list = [0.0; 3 * arch::MOST];
-        let told = lent::arch(cameras, frames, self.ours.lend(), &mut list).cameras;
+        let list = &mut [0.0; 3 * arch::MOST][..3 * cameras];
+        let told = lent::arch(cameras, frames, self.ours.lend(), list).cameras;
         let camera = |((due, ours), told): (_, Answer)| match due {
             Ok(file) => self.hold(file).with_camera(ours, told.verdicts),
             Err(number) => Held::refused(number, ours, told.verdicts),
