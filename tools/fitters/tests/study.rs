@@ -71,11 +71,15 @@ fn row(scene: &Scene) -> String {
     format!("| {} | {six} | {each} | {panel} |", scene.name)
 }
 
+fn using() -> String {
+    let using = Path::new(env!("CARGO_MANIFEST_DIR")).join("../../docs/USING.md");
+    fs::read_to_string(using).expect("the document")
+}
+
 /// The table stands in docs/USING.md as it is measured.
 #[test]
 fn the_table() {
-    let using = Path::new(env!("CARGO_MANIFEST_DIR")).join("../../docs/USING.md");
-    let using = fs::read_to_string(using).expect("the document");
+    let using = using();
     let rows: Vec<String> = scenes(0).iter().map(row).collect();
     println!("{}", rows.join("\n"));
     let missing = rows.iter().filter(|row| !using.contains(row.as_str()));
@@ -112,6 +116,12 @@ fn is_faint(verdicts: &Verdicts) -> bool {
     verdicts.too_flat > 0 || beaten_each(verdicts).is_some_and(|each| each < 10)
 }
 
+/// No sign that `--why` goes by.
+fn is_silent(verdicts: &Verdicts) -> bool {
+    let none = verdicts.too_few + verdicts.wrong_curvature == 0;
+    none && !is_broad(verdicts) && !is_faint(verdicts)
+}
+
 /// What has no sign of anything: a panel that is whole, or of which a part is outside; and, not to be told from these, one of which a part
 /// is blurred.
 #[test]
@@ -127,10 +137,7 @@ fn no_sign() {
         "far away, squares of 3",
         "blurred much, its left half",
     ];
-    hold(ALL, &names, |verdicts| {
-        let none = verdicts.too_few + verdicts.wrong_curvature == 0;
-        none && !is_broad(verdicts) && !is_faint(verdicts)
-    });
+    hold(ALL, &names, is_silent);
     let whole = [
         "sharp",
         "haze, contrast 40",
@@ -159,16 +166,17 @@ fn broad_peaks() {
     });
 }
 
+const FAINT: [&str; 4] = [
+    "haze, contrast 3",
+    "haze, contrast 2",
+    "no panel, plain grey",
+    "black",
+];
+
 /// Faint pictures, and how much of noise is kept there.
 #[test]
 fn faint_pictures() {
-    let names = [
-        "haze, contrast 3",
-        "haze, contrast 2",
-        "no panel, plain grey",
-        "black",
-    ];
-    hold(ALL, &names, |verdicts| {
+    hold(ALL, &FAINT, |verdicts| {
         is_faint(verdicts) && verdicts.kept > 3 * 48
     });
     hold(ALL, &["black, no noise"], |verdicts| {
@@ -191,4 +199,37 @@ fn edges() {
         "no panel, boxes and beams",
     ];
     hold(ALL, &names, |verdicts| verdicts.wrong_curvature > 0);
+}
+
+/// The least and the greatest number of kept ones in all variants of these.
+fn kept(names: &[&str]) -> String {
+    let all = measured().iter();
+    let all: Vec<usize> = all
+        .flat_map(|measured| names.iter().map(|name| measured[name].kept))
+        .collect();
+    let ends = [all.iter().min(), all.iter().max()];
+    ends.map(|end| thousands(*end.expect("a scene")))
+        .join(" to ")
+}
+
+/// The numbers that docs/USING.md concludes with stand there as they are measured.
+#[test]
+fn the_conclusions() {
+    let (using, specks) = (using(), ["60 specks", "300 specks", "1,000 specks"]);
+    let turned = &measured()[5]["sharp"];
+    let hidden = &measured()[4]["blurred a little"];
+    assert!(is_silent(hidden), "{hidden:?}");
+    let each = beaten_each(hidden).expect("peaks");
+    for told in [
+        format!(
+            "{} with specks, {} where it is faint, {} where it is blurred much",
+            kept(&specks),
+            kept(&FAINT),
+            kept(&["blurred much"])
+        ),
+        format!("a sharp panel that was turned by 27° had {}", turned.kept),
+        format!("blurred a little and turned by 23° had {each} beaten for each peak"),
+    ] {
+        assert!(using.contains(&told), "{told}");
+    }
 }
