@@ -8,7 +8,7 @@ use std::fs;
 use std::path::Path;
 use std::sync::OnceLock;
 
-use scenes::{scenes, Scene, HEIGHT, WIDTH};
+use scenes::{scenes, thousands, Scene, HEIGHT, WIDTH};
 use steyrbunk::{Finder, Found, Image, Settings, Verdicts};
 
 /// How far a corner may lie from where it was drawn, in input pixels.
@@ -51,13 +51,6 @@ fn peaks(verdicts: &Verdicts) -> usize {
 fn beaten_each(verdicts: &Verdicts) -> Option<usize> {
     let peaks = peaks(verdicts);
     (peaks > 0).then(|| verdicts.beaten / peaks)
-}
-
-fn thousands(number: usize) -> String {
-    match number {
-        0..1_000 => number.to_string(),
-        _ => format!("{},{:03}", number / 1_000, number % 1_000),
-    }
 }
 
 /// A row of the table.

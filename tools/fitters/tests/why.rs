@@ -252,10 +252,7 @@ fn lists_stay() {
 
 /// Counts as a person reads them.
 fn counted(counts: [u64; 6]) -> String {
-    let thousands = |n: u64| match n {
-        0..1_000 => n.to_string(),
-        _ => format!("{},{:03}", n / 1_000, n % 1_000),
-    };
+    let thousands = |n: u64| scenes::thousands(n as usize);
     let [not_above, beaten, too_few, too_flat, wrong, kept] = counts.map(thousands);
     format!(
         "{kept} kept of {} candidates; {not_above} not above the floor, {beaten} beaten by a neighbour, \

@@ -15,6 +15,14 @@ const GROUND: f64 = 110.0;
 /// Samples along a pixel's side.
 const FINE: usize = 4;
 
+/// A count of a scene as the document writes it: 285,977.
+pub fn thousands(number: usize) -> String {
+    match number {
+        0..1_000 => number.to_string(),
+        _ => format!("{},{:03}", number / 1_000, number % 1_000),
+    }
+}
+
 /// How a panel stands before the camera.
 #[derive(Clone, Copy)]
 pub struct Pose {
