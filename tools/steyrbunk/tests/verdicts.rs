@@ -392,6 +392,36 @@ fn outside_the_map() {
     }
 }
 
+/// Settings that every call refuses have a verdict too: windows and disks that lie in no map, counts that no window has.
+#[test]
+fn settings_past_the_limits() {
+    let view = View {
+        response: &[1.0; 49],
+        working: &[1; 49],
+        width: 7,
+        height: 7,
+    };
+    let numbers = [0, 1, 3, 4, 8, 9, 33, 48, 49, 1 << 16, 1 << 31, u32::MAX];
+    for (ray_radius, nms_radius) in numbers.into_iter().flat_map(|x| numbers.map(|y| (x, y))) {
+        for min_cluster_size in numbers {
+            let settings = Settings {
+                ray_radius,
+                nms_radius,
+                min_cluster_size,
+                ..DOCUMENT
+            };
+            // An even map over an even picture, judged in the middle.
+            let expected = match nms_radius {
+                4.. => Verdict::NotAbove,
+                _ if min_cluster_size >= (2 * nms_radius + 1).pow(2) => Verdict::TooFew,
+                _ => Verdict::TooFlat,
+            };
+            let judged = Candidates::new(view, &settings).verdict(3, 3);
+            assert_eq!(judged, expected, "{settings:?}");
+        }
+    }
+}
+
 /// Numbers, names and words tell the six apart, and the counts stand in their order.
 #[test]
 fn names_and_numbers() {
