@@ -301,10 +301,6 @@ pub record Scanned (s : Scan) (resp : List Float) (image : List ℕ) (y : ℕ) (
   pub across : Across (Onwards s resp image y mid t out u) (borderIn s) (s .w - borderIn s) (borderIn s) (s .h - borderIn s) y x
   pub tally : Tally u (8192 * y + x)
 
--- a search that goes on past x comes nearer the end
-pub nearer : (e x i : ℕ) → x < e → x + 1 ≤ i → e - i < e - x
-nearer e x i a b = omega arith
-
 module _ {s : Scan} {resp : List Float} {image : List ℕ} {y : ℕ} {t₀ : List ℕ} (f : Finding s y t₀ (length resp) (length image))
     {b : ℕ} (border : b ≡ borderIn s) where
   pub scan-none : {mid : List Float} → Scanned s resp image y mid t₀ mid t₀ b

@@ -140,10 +140,13 @@ fn find_in_row(
 {
     let b = scan.params.border();
     let ex = scan.w - b;
-    let mut x = next_in_row(resp, scan, y, b, ex, tally);
+    let mut x = b;
     while x < ex {
-        judge_and_list(resp, image, scan, x, y, tally, list);
-        x = next_in_row(resp, scan, y, x + 1, ex, tally);
+        x = next_in_row(resp, scan, y, x, ex, tally);
+        if x < ex {
+            judge_and_list(resp, image, scan, x, y, tally, list);
+            x += 1;
+        }
     }
 }
 
