@@ -328,7 +328,7 @@ module _ {s : Scan} {resp : List Float} {image : List ℕ} {y : ℕ} {t₀ : Lis
           holds = c .across .holds .0;
         } in
         let there = rw o at (across-skip _ _ _ _ _ (i - x) listed (omega arith)
-            (λ k a e p. onward-no _ _ _ _ _ _ _ _ p (early-dropped (verdictIn s resp image (place k y)) (early k a (omega arith))))) in
+        (λ k a e p. onward-no _ _ _ _ _ _ _ _ p (early-dropped (verdictIn s resp image (place k y)) (early k a (omega arith))))) in
         record {
           across = record {
             least = there .least;

@@ -2,25 +2,34 @@
 -- to get wrong. Assumes nothing.
 use mathlib.Core.Path.{_≡_, refl}
 use mathlib.Core.List.{List, [], _∷_}
+use Prim.Native.Nat.{ℕ}
 use lib.Ieee.{Float, nan, binary32, ofBits, toBits, ofFields, odd, size}
 use Rattle.params.specs.declared.answers.Answer.the-variants.{Complete, ListFull, StatedLength}
+use Rattle.params.specs.declared.answers.Verdicts.{Verdicts}
+use Rattle.params.specs.declared.answers.Outcome.{Outcome}
 use Rattle.params.specs.Answers.{refused}
 use Rattle.lines.specs.Printed.{ascii, digitsIn, digits, numeral, decimal, word, row, refusedLine, firstLine}
 use Rattle.lines.specs.Printed.{cornerLine, cornerLines, fullLine, printed}
 
+-- the lines do not go by the six counts
+pub counts-not-printed : (k : ℕ) (o : Outcome) (v : Verdicts) (l : List Float)
+    → printed k (record { answer = o .answer; count = o .count; w = o .w; h = o .h; verdicts = v }) l ≡ printed k o l
+unfolding printed
+counts-not-printed k o v l = refl
+
 abbrev corner : List Float
 corner = ofBits binary32 0x4040_0000 ∷ ofBits binary32 0x4040_0000 ∷ ofBits binary32 0x481c_4000 ∷ []
 
-pub frame-prints : printed 3 (record { answer = Complete; count = 1; w = 7; h = 7 }) corner
+pub frame-prints : (v : Verdicts) → printed 3 (record { answer = Complete; count = 1; w = 7; h = 7; verdicts = v }) corner
     ≡ ascii "7 7 1\n" ∷ ascii "40400000 40400000 481C4000\n" ∷ []
 unfolding printed firstLine cornerLines cornerLine row numeral digits digitsIn toBits ofBits ofFields odd size
-frame-prints = refl
+frame-prints v = refl
 
 -- one corner more than there is room for
-pub full-prints : printed 3 (record { answer = ListFull; count = 2; w = 7; h = 7 }) corner
+pub full-prints : (v : Verdicts) → printed 3 (record { answer = ListFull; count = 2; w = 7; h = 7; verdicts = v }) corner
     ≡ ascii "7 7 2\n" ∷ ascii "40400000 40400000 481C4000\n" ∷ ascii "list full\n" ∷ []
 unfolding printed firstLine cornerLines cornerLine fullLine row numeral digits digitsIn toBits ofBits ofFields odd size
-full-prints = refl
+full-prints v = refl
 
 pub refusal-prints : printed 3 (refused StatedLength) [] ≡ ascii "refused 13\n" ∷ []
 unfolding printed refusedLine row numeral digits digitsIn

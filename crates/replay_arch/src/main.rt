@@ -337,7 +337,10 @@ fn same(told: Outcome, single: Outcome) -> Compared {
     );
     Compared {
         next: 0,
-        wrong: vectors::plus(head, vectors::plus(sides, six(told.verdicts, single.verdicts))),
+        wrong: vectors::plus(
+            head,
+            vectors::plus(sides, six(told.verdicts, single.verdicts)),
+        ),
         values: 10,
     }
 }

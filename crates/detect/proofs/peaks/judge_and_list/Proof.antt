@@ -76,9 +76,9 @@ returns c =
     let kept = i .before .is-kept .ensures in
     elim (i .if1 .came) [
       | inl p ↦ entered-put (o .scan) (o .resp .now) (o .image .now) (o .x) (o .y) (o .list .now) (o .tally .now)
-        (told j) kept (k .rank .ensures) (start j .pre .1 .long) refl refl (p .0 .taken) (p .5 ∙ p .2 .ensures)
+          (told j) kept (k .rank .ensures) (start j .pre .1 .long) refl refl (p .0 .taken) (p .5 ∙ p .2 .ensures)
       | inr p ↦ entered-not (o .scan) (o .resp .now) (o .image .now) (o .x) (o .y) (o .list .now) (o .tally .now)
-        (told j) kept (k .rank .ensures) (start j .pre .1 .long) refl refl (p .0 .left) (p .1)
+          (told j) kept (k .rank .ensures) (start j .pre .1 .long) refl refl (p .0 .left) (p .1)
     ]
 
 same-length : tie.Need-same-length
