@@ -1,5 +1,5 @@
 -- `detect::peaks::find_peaks` meets its contract. The invariant is `FoundTo`: what is found and counted in the rows above. Assumes nothing.
-use mathlib.Core.Path.{_≡_, ap}
+use mathlib.Core.Path.{ap}
 use Prim.Native.Nat.{ℕ, _-_, _*_}
 use native.Mathlib.Nat.{mul-le-mul}
 use native.Mathlib.Omega.{arith}

@@ -1,5 +1,5 @@
 -- `detect::peaks::judge_and_list` meets its contract: stored or not, its verdict is tallied. Assumes nothing.
-use mathlib.Core.Path.{_≡_, refl, sym, ap, _∙_}
+use mathlib.Core.Path.{_≡_, refl, _∙_}
 use mathlib.Core.Logic.{inl, inr}
 use mathlib.Core.List.{[]}
 use Prim.Native.Nat.{_/_, _<_}
