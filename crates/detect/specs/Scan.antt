@@ -71,7 +71,7 @@ borderIn c = borderOf (c .params)
 abbrev pub rowsAbove : Scan → ℕ → List Place
 rowsAbove c y = rect (borderIn c) (c .w - borderIn c) (borderIn c) y
 
--- ---- the tally: entry k is how many candidates have passed just k tests, and entry 0 is not kept
+-- ---- the tally: entry k is how many candidates have passed just k tests, for k from 1 on; nothing is said of entry 0, which is not read
 
 -- six entries, none above a bound
 pub record Tally (t : List ℕ) (most : ℕ) : Type 0 where
