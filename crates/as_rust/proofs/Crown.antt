@@ -27,7 +27,7 @@ use Rattle.grid.proofs.All.{all-map, each-same}
 use Rattle.params.specs.declared.settings.RadonDetectorParams.{RadonDetectorParams}
 use Rattle.params.specs.declared.settings.PeakFitMode.{PeakFitMode}
 use Rattle.params.specs.declared.settings.PeakFitMode.the-variants.{Parabolic, Gaussian}
-use Rattle.params.specs.Settings.{defaults, factorOf, rayOf}
+use Rattle.params.specs.Settings.{existingSites, factorOf, rayOf}
 use Rattle.params.specs.Answers.{numberOf}
 use Rattle.params.proofs.Accepted.{map-accepted, all-accepted}
 use Rattle.scalar.specs.Log.{logOf, terms, high, lowest, highest, difference, unitsOf, cutThird}
@@ -54,10 +54,10 @@ use Rattle.as_rust.proofs.Root.{nearest-root, nearest-roots}
 use Rattle.as_rust.proofs.Values.{Good}
 use Rattle.as_rust.proofs.Detect.{listed, Held, Viewed, numbers-as-rust, detect-as-rust}
 
--- ---- the settings
+-- ---- the settings: the Rust's own defaults are those of the existing sites
 
-pub default-is-ours : default ≡ defaults
-default-is-ours = refl
+pub default-is-existing-sites : default ≡ existingSites
+default-is-existing-sites = refl
 
 -- ---- two maps and two images that agree inside have the same list
 

@@ -1,5 +1,5 @@
--- Document 01, "Settings and sizes": what a factor or radius counts as, the mode by its number, and the defaults; and the
--- border of "Rules of the list", by which frames are judged too small.
+-- Document 01, "Settings and sizes": what a factor or radius counts as, the mode by its number, and the defaults, with document 02's
+-- seventh request; and the border of "Rules of the list", by which frames are judged too small.
 use mathlib.Core.Bool.{cond}
 use Prim.Native.Nat.{ℕ, _+_, max, min}
 use lib.Dec.{eqb}
@@ -26,14 +26,22 @@ borderOf p = rayOf (p .«ray_radius») + p .«nms_radius» + 1
 abbrev pub modeNumbered : ℕ → NumberedMode
 modeNumbered n = cond (eqb n 0) (Known Parabolic) (cond (eqb n 1) (Known Gaussian) (Refused Mode))
 
--- "ray 4, upsampling 2, blur 1, Gaussian, 0.28, suppression 4, count 2": 0.28 is the nearest f32, 3E8F5C29
-abbrev pub defaults : RadonDetectorParams
-defaults = record {
+-- "ray 4, upsampling 2, blur 1, Gaussian, 0.28, suppression 4, count 2", with the suppression to choose: 0.28 is the nearest f32, 3E8F5C29
+abbrev pub startUp : ℕ → RadonDetectorParams
+startUp suppression = record {
   «ray_radius» = 4;
   «image_upsample» = 2;
   «response_blur_radius» = 1;
   «peak_fit» = Gaussian;
   «threshold_rel» = ofBits binary32 0x3e8f_5c29;
-  «nms_radius» = 4;
+  «nms_radius» = suppression;
   «min_cluster_size» = 2;
 }
+
+-- document 02: "The default suppression radius becomes 6"
+abbrev pub defaults : RadonDetectorParams
+defaults = startUp 6
+
+-- "the existing sites' start-up settings", which "depended on 4": document 01's own defaults
+abbrev pub existingSites : RadonDetectorParams
+existingSites = startUp 4

@@ -1,7 +1,7 @@
-// The settings of a call, with their defaults, and what a number outside their range counts as.
+// The settings of a call, with their defaults and the set of the existing sites, and what a number outside their range counts as.
 use crate::Answer;
 ghost use mathlib.Core.Path.{_≡_};
-ghost use Rattle.params.specs.Settings.{defaults, factorOf, rayOf, borderOf, modeNumbered};
+ghost use Rattle.params.specs.Settings.{defaults, existingSites, factorOf, rayOf, borderOf, modeNumbered};
 
 // How a peak is fitted between pixels.
 pub enum PeakFitMode {
@@ -53,9 +53,11 @@ impl RadonDetectorParams {
 
     pub const DEFAULT_THRESHOLD_REL: f32 = 0.28;
 
-    pub const DEFAULT_NMS_RADIUS: u32 = 4;
+    pub const DEFAULT_NMS_RADIUS: u32 = 6;
 
     pub const DEFAULT_MIN_CLUSTER_SIZE: u32 = 2;
+
+    pub const EXISTING_SITES_NMS_RADIUS: u32 = 4;
 
     // The default settings.
     pub fn new() -> Self
@@ -70,6 +72,15 @@ impl RadonDetectorParams {
             nms_radius: Self::DEFAULT_NMS_RADIUS,
             min_cluster_size: Self::DEFAULT_MIN_CLUSTER_SIZE,
         }
+    }
+
+    // The start-up settings of the sites that are older than the default of 6. They are the Rust's own defaults.
+    pub fn existing_sites() -> Self
+        ensures { λ r. ⌜ r ≡ existingSites ⌝ }
+    {
+        let mut settings = Self::new();
+        settings.nms_radius = Self::EXISTING_SITES_NMS_RADIUS;
+        settings
     }
 
     // The upsampling factor that is used: 1 or 2.

@@ -4,14 +4,14 @@
 -- and Lists.antt has what is said of a list: `ListIs`, `Filtered`, `Opens`. Assumes nothing.
 use mathlib.Core.Path.{_≡_, refl, sym, ap, _∙_}
 use mathlib.Core.Logic.{_⊎_, inl, inr}
-use mathlib.Core.Bool.{true, false}
+use mathlib.Core.Bool.{true, false, or-true}
 use mathlib.Core.List.{List}
 use Prim.Native.Nat.{ℕ, _+_, _*_, _/_, _%_, _≤_, _<_}
 use native.Mathlib.Omega.{arith}
-use borrow.Author.Tests.{ne-eqb}
-use lib.Dec.{T}
+use borrow.Author.Tests.{ne-eqb, le-leb}
+use lib.Dec.{T, leb}
 use lib.ListN.{length, getD, take, drop}
-use lib.Ieee.{Float, nan, binary32, fits, le}
+use lib.Ieee.{Float, nan, binary32, ofBits, isNan, fits, le, lt}
 use lib.Ieee.Exact.{HasValue}
 use lib.Ieee.Scale.{finite}
 use Rattle.float.specs.Values.{f0}
@@ -21,7 +21,7 @@ use Rattle.scalar.specs.declared.Log.the-variants.{Value}
 use Rattle.scalar.proofs.Facts.{log-near, log-inside}
 use Rattle.params.specs.declared.settings.RadonDetectorParams.{RadonDetectorParams}
 use Rattle.params.specs.declared.answers.Answer.the-variants.{FrameTooSmall}
-use Rattle.params.specs.Settings.{factorOf, rayOf, borderOf}
+use Rattle.params.specs.Settings.{defaults, factorOf, rayOf, borderOf}
 use Rattle.params.specs.Answers.{numberOf, refused}
 use Rattle.params.specs.Refusals.{outOfRange, tooSmall}
 use Rattle.params.proofs.Accepted.{SizesPass, MapPasses, all-accepted, small-answered}
@@ -79,6 +79,23 @@ module _ (img : List ℕ) (w h : ℕ) (p : RadonDetectorParams) (b : Buffers) wh
   pub list-beyond-stays : Accepted img w h p b
       → drop (stride * writtenBy img w h p b) (listLeft img w h p b) ≡ drop (stride * writtenBy img w h p b) (b .list)
   list-beyond-stays z = lists.list-is-corners img w h p b z .beyond
+
+-- At the defaults the border is 4 + 6 + 1: a frame of 22 working pixels a side is refused, and what is accepted is larger
+module _ (img : List ℕ) (w h : ℕ) (b : Buffers) where
+  pub default-small-refused : SizesPass w h (length img) (defaults .«image_upsample») → (sideOf w defaults ≤ 22) ⊎ (sideOf h defaults ≤ 22)
+      → (outcomeOf img w h defaults b ≡ refused FrameTooSmall) × (buffersOf img w h defaults b ≡ b)
+  default-small-refused sizes s =
+      small-frame-refused img w h defaults b sizes (record { ray = omega arith; blur = omega arith }) (omega arith) range (small s)
+    where
+      range : outOfRange (defaults .«threshold_rel») ≡ false
+      range = unfold isNan lt ofBits in refl
+
+      small : (sideOf w defaults ≤ 22) ⊎ (sideOf h defaults ≤ 22) → tooSmall (sideOf w defaults) (sideOf h defaults) defaults ≡ true
+      small (inl l) = rw (le-leb (sideOf w defaults) 22 l)
+      small (inr l) = rw (le-leb (sideOf h defaults) 22 l, or-true (leb (sideOf w defaults) 22))
+
+  pub default-accepted-larger : Accepted img w h defaults b → (22 < sideOf w defaults) × (22 < sideOf h defaults)
+  default-accepted-larger = accepted-is-larger img w h defaults b
 
 -- "What a buffer held before the call changes no answer and no written number."
 module _ (img : List ℕ) (w h : ℕ) (p : RadonDetectorParams) (b c : Buffers)

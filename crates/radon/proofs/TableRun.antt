@@ -1,5 +1,5 @@
--- Document 01's "Run" numbers that the definitions decide, and document 02's of frames too small to judge, as one claim: what the table of answers
--- says, a frame without a corner, and the frame's own corner. Assumes nothing.
+-- Document 01's "Run" numbers that the definitions decide, and document 02's of frames too small to judge and of the defaults, as one claim: what the table
+-- of answers says, a frame without a corner, and the frame's own corner. Assumes nothing.
 use mathlib.Core.Path.{_≡_, refl}
 use mathlib.Core.List.{List, [], _∷_}
 use Prim.Native.Nat.{ℕ, _*_}
@@ -13,6 +13,7 @@ use Rattle.grid.specs.Ways.{ray}
 use Rattle.scalar.specs.Root.{rootOf}
 use Rattle.params.specs.declared.settings.PeakFitMode.the-variants.{Parabolic}
 use Rattle.params.specs.declared.settings.RadonDetectorParams.{RadonDetectorParams}
+use Rattle.params.specs.Settings.{defaults, existingSites}
 use Rattle.params.specs.Coordinates.{toInput}
 use Rattle.params.specs.Answers.{numberOf}
 use Rattle.params.specs.Refusals.{sizeRefusal, mapRefusal, listRefusal, roomRefusal, refusalOf, mapRefusalOf}
@@ -95,6 +96,11 @@ computed =
     ∷ mapAnswerTo 6 6 framed ∷ mapAnswerTo 0 0 framed
     -- the list's own, on 6 by 6, on sides of 0, with no room, and on 7 by 7
     ∷ listAnswerTo 6 6 framed ∷ listAnswerTo 0 0 framed ∷ numberOf (peaksRefusal 6 6 framed 0) ∷ listAnswerTo 7 7 framed
+    -- the defaults, on sides of 11 and 12 pixels; by the list's own entry on 22 by 22 and 23 by 23 working pixels
+    ∷ answerTo 11 11 defaults ∷ answerTo 11 12 defaults ∷ answerTo 12 11 defaults ∷ answerTo 12 12 defaults
+    ∷ listAnswerTo 22 22 defaults ∷ listAnswerTo 23 23 defaults
+    -- the existing sites' settings, on sides of 9 and 10 pixels
+    ∷ answerTo 9 9 existingSites ∷ answerTo 9 10 existingSites ∷ answerTo 10 10 existingSites
     -- how many numbers the list has at threshold 1.0
     ∷ length (listed 7 7 (settings 1 0 1 0x3f80_0000))
     -- the frame's own list
@@ -123,6 +129,11 @@ stated =
     ∷ 0 ∷ 0
     -- 15, 15, 15, passes
     ∷ 15 ∷ 15 ∷ 15 ∷ 0
+    -- 15 up to twice 4 + 6 + 1 working pixels
+    ∷ 15 ∷ 15 ∷ 15 ∷ 0
+    ∷ 15 ∷ 0
+    -- 15 up to twice 4 + 4 + 1
+    ∷ 15 ∷ 15 ∷ 0
     -- finds none
     ∷ 0
     -- "40400000 40400000 481C4000"
