@@ -11,6 +11,7 @@ Then
     corners = finder.find(image)                     # a 2-D grey image: numpy, OpenCV, a memoryview
     corners = finder.find(pixels, 1280, 960)         # bytes, row after row, with their sides
     corners = finder.find(image, threshold_rel=0.1)  # other settings than the defaults
+    corners = finder.find(image, **steyrbunk.EXISTING_SITES)               # those of sites older than version 0.5.0
     steyrbunk.draw("dawn.png", image, corners)
     print(corners.verdicts)                          # why the other pixels are no corners: six counts
     kept = steyrbunk.write_record(corners, corners.width, corners.height)  # bytes, to be read back years later
@@ -31,8 +32,8 @@ import struct
 import zlib
 from collections import namedtuple
 
-__all__ = ["Corner", "Finder", "Found", "Record", "Refused", "Verdicts", "WORDS", "draw", "read_record", "write_record"]
-__version__ = "0.4.0"
+__all__ = ["Corner", "DEFAULTS", "EXISTING_SITES", "Finder", "Found", "Record", "Refused", "Verdicts", "WORDS", "draw", "read_record", "write_record"]
+__version__ = "0.5.0"
 
 Corner = namedtuple("Corner", "x y strength")
 Corner.__doc__ = "A corner: its place in input pixels, the middle of a pixel being a whole number, and the map's value there."
@@ -71,15 +72,19 @@ WORDS = {
     21: "the camera count is not 2 to 8, or the list has less than one corner a camera",
 }
 
+# The suppression radius, nms_radius, is 6 since version 0.5.0, and was 4.
 DEFAULTS = {
     "ray_radius": 4,
     "image_upsample": 2,
     "response_blur_radius": 1,
     "peak_fit": "gaussian",
     "threshold_rel": 0.28,
-    "nms_radius": 4,
+    "nms_radius": 6,
     "min_cluster_size": 2,
 }
+
+# What sites older than version 0.5.0 start up with, by finder.find(image, **EXISTING_SITES); so does the published Rust.
+EXISTING_SITES = {**DEFAULTS, "nms_radius": 4}
 
 _FITS = {"parabolic": 0, "gaussian": 1}
 _LARGEST_SIDE = 4096

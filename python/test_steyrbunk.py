@@ -74,22 +74,27 @@ spread[::2] = FRAME
 check(finder.find(memoryview(spread)[::2], 7, 7, **SETTINGS), corner)
 check(bytes(spread[::2]), FRAME)
 
-# A board as the command finds it, to the last bit, before and after other frames, and in a list that grows.
+# A board as the command finds it, to the last bit, before and after other frames, and in a list that grows; by both sets of
+# settings that have a name.
 width, height = 320, 200
 board = bytes(190 if ((x + 3) // 16 + (y + 5) // 16) % 2 else 40 for y in range(height) for x in range(width))
 path = os.path.join(FOLDER, "board.pgm")
 with open(path, "wb") as file:
     file.write(b"P5 %d %d 255\n" % (width, height) + board)
-text = subprocess.run([COMMAND, "--format", "json", path], capture_output=True, check=True).stdout
-expected = [tuple(struct.unpack("f", struct.pack("f", c[n]))[0] for n in ("x", "y", "strength")) for c in json.loads(text)["corners"]]
-check(len(expected) > 100, True)
-for room in (1024, 1):
-    finder._room(room)
-    given = finder.find(board, width, height)
-    check([tuple(corner) for corner in given], expected)
-    check(given.verdicts._asdict(), json.loads(text)["verdicts"])
-    check((given.verdicts.kept, sum(given.verdicts)), (len(expected), (2 * width - 18) * (2 * height - 18)))
-    check(finder.find(FRAME, 7, 7, **SETTINGS), corner)
+check((steyrbunk.DEFAULTS["nms_radius"], steyrbunk.EXISTING_SITES), (6, {**steyrbunk.DEFAULTS, "nms_radius": 4}))
+for words, chosen, border in (["existing-sites", steyrbunk.EXISTING_SITES, 9], ["default", steyrbunk.DEFAULTS, 11], [None, {}, 11]):
+    call = [COMMAND, "--format", "json"] + (["--settings", words] if words else []) + [path]
+    text = subprocess.run(call, capture_output=True, check=True).stdout
+    expected = [tuple(struct.unpack("f", struct.pack("f", c[n]))[0] for n in ("x", "y", "strength")) for c in json.loads(text)["corners"]]
+    check(len(expected) > 100, True)
+    for room in (1024, 1):
+        finder._room(room)
+        given = finder.find(board, width, height, **chosen)
+        check([tuple(corner) for corner in given], expected)
+        check(given.verdicts._asdict(), json.loads(text)["verdicts"])
+        candidates = (2 * width - 2 * border) * (2 * height - 2 * border)
+        check((given.verdicts.kept, sum(given.verdicts)), (len(expected), candidates))
+        check(finder.find(FRAME, 7, 7, **SETTINGS), corner)
 
 # Each of the six, of document 01's one candidate: the saddle moved by a pixel, an edge, a speck.
 def saddle(right):
@@ -126,14 +131,18 @@ for number, arguments, settings in (
     (15, (FRAME[:42], 6, 7), SETTINGS),
     (15, (FRAME[:42], 7, 6), SETTINGS),
     (15, (FRAME, 7, 7), {**SETTINGS, "nms_radius": 2}),
-    (15, (bytes(90), 9, 10), {}),
+    (15, (bytes(132), 11, 12), {}),
+    (15, (bytes(132), 12, 11), {}),
+    (15, (bytes(90), 9, 10), steyrbunk.EXISTING_SITES),
     (15, (b"", 0, 0), {}),
     (15, (memoryview(b""), 0, 4096), SETTINGS),
 ):
     refused(number, finder.find, *arguments, **settings)
     check(finder.find(FRAME, 7, 7, **SETTINGS), corner)
 # Empty, and large enough to be.
-empty = finder.find(bytes(100), 10, 10)
+empty = finder.find(bytes(144), 12, 12)
+check((empty, empty.width, empty.height), ([], 24, 24))
+empty = finder.find(bytes(100), 10, 10, **steyrbunk.EXISTING_SITES)
 check((empty, empty.width, empty.height), ([], 20, 20))
 
 # What no call can be made of.
@@ -162,7 +171,7 @@ def results(arch):
 
 
 small, large = frame_file(FRAME, 7, 7), frame_file(board, width, height, 4, 2, 1, 1, 4)
-board_found = finder.find(board, width, height)
+board_found = finder.find(board, width, height, **steyrbunk.EXISTING_SITES)
 one, all_of_it = (corner, 7, 7, found.verdicts), (board_found, 2 * width, 2 * height, board_found.verdicts)
 check(results(finder.arch([small, small])), [one, one])
 for count in range(2, 9):

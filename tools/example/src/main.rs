@@ -19,7 +19,7 @@ fn kept(found: &Found) -> Result<Found, Refusal> {
 
 fn main() {
     let (width, height) = (64, 48);
-    let cell = |at: usize| (at % width + 3) / 16 + (at / width + 5) / 16;
+    let cell = |at: usize| (at % width + 3) / 16 + (at / width + 8) / 16;
     let pixels: Vec<u8> = (0..width * height)
         .map(|at| [40, 120][cell(at) % 2])
         .collect();

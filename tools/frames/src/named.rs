@@ -16,11 +16,16 @@ pub fn settings_help() -> String {
     } = Settings::default();
     let (rays, blurs, windows) = (limits::RAY, limits::BLUR, limits::SUPPRESSION);
     let side = Settings::default().least_side();
+    let sites = Settings::existing_sites().nms_radius;
     format!(
         "\
 Settings, for PGM pictures; a frame file has its own. A frame whose working width or height is at
 most twice (ray + suppression + 1) is too small to judge and is refused, 15, where an empty panel
 has an empty list: with the defaults each side needs {side} pixels or more.
+  --settings NAME            all of them, by the name of a set: {DEFAULT}, or {EXISTING_SITES},
+                             which is for sites older than version 0.5.0: the default but for
+                             --nms-radius {sites}, as the published Rust has it. What is named singly
+                             goes over the set
   --ray-radius N             0 to {rays}, default {ray}; half length of the rays, in working pixels
   --image-upsample N         1 or 2, default {up}; working pixels along an input pixel
   --response-blur-radius N   0 to {blurs}, default {blur}
@@ -32,9 +37,15 @@ has an empty list: with the defaults each side needs {side} pixels or more.
     )
 }
 
+/// The sets by their names.
+const DEFAULT: &str = "default";
+const EXISTING_SITES: &str = "existing-sites";
+
 /// The settings that the call names.
 #[derive(Default, Clone, Copy, PartialEq)]
 pub struct Named {
+    /// All of them, by the name of a set.
+    pub set: Option<Settings>,
     pub ray_radius: Option<u32>,
     pub image_upsample: Option<u32>,
     pub response_blur_radius: Option<u32>,
@@ -49,6 +60,14 @@ impl Named {
     pub fn flag(&mut self, flag: &str, words: &mut Words) -> Result<bool, Usage> {
         const WHOLE: &str = "a whole number";
         match flag {
+            "--settings" => {
+                let wanted = format!("{DEFAULT} or {EXISTING_SITES}");
+                self.set = match words.value::<String>(flag, &wanted)?.as_str() {
+                    DEFAULT => Some(Settings::default()),
+                    EXISTING_SITES => Some(Settings::existing_sites()),
+                    name => return Usage::wrong(format!("no set of settings is called {name}")),
+                }
+            }
             "--ray-radius" => self.ray_radius = Some(words.value(flag, WHOLE)?),
             "--image-upsample" => match words.value(flag, "1 or 2")? {
                 factor @ 1..=2 => self.image_upsample = Some(factor),
@@ -71,7 +90,9 @@ impl Named {
         Ok(true)
     }
 
+    /// A set has all settings, so nothing of the base is left where one is named.
     pub fn over(&self, base: Settings) -> Settings {
+        let base = self.set.unwrap_or(base);
         Settings {
             ray_radius: self.ray_radius.unwrap_or(base.ray_radius),
             image_upsample: self.image_upsample.unwrap_or(base.image_upsample),

@@ -87,14 +87,18 @@ extern "C" {
 #define STEYRBUNK_FEWEST_CAMERAS 2u
 #define STEYRBUNK_MOST_CAMERAS 8u
 
-/* The default settings. */
+/* The default settings. The suppression radius is 6 since version 0.5.0 of the tools, and was 4: a program that depended on that
+ * names STEYRBUNK_EXISTING_SITES_NMS_RADIUS, or compiled against this header it searches with 6. */
 #define STEYRBUNK_RAY_RADIUS 4u
 #define STEYRBUNK_IMAGE_UPSAMPLE 2u
 #define STEYRBUNK_RESPONSE_BLUR_RADIUS 1u
 #define STEYRBUNK_PEAK_FIT STEYRBUNK_GAUSSIAN
 #define STEYRBUNK_THRESHOLD_REL 0.28f
-#define STEYRBUNK_NMS_RADIUS 4u
+#define STEYRBUNK_NMS_RADIUS 6u
 #define STEYRBUNK_MIN_CLUSTER_SIZE 2u
+
+/* The start-up settings of sites older than version 0.5.0 are the defaults but for this one. So are the published Rust's own. */
+#define STEYRBUNK_EXISTING_SITES_NMS_RADIUS 4u
 
 /* Values of peak_fit. */
 #define STEYRBUNK_PARABOLIC 0u

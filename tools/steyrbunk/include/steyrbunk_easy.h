@@ -1,7 +1,7 @@
 /* steyrbunk_easy.h: the finder of steyrbunk.h with one workspace in place of seven buffers, settings as a
  * struct, and words for the answers. Everything here is inline C over the library; link libsteyrbunk_c.a.
  *
- *     steyrbunk_settings settings = steyrbunk_defaults();
+ *     steyrbunk_settings settings = steyrbunk_defaults();  // or steyrbunk_existing_sites(), with a suppression radius of 4
  *     size_t bytes = steyrbunk_workspace(width, height, &settings);
  *     void *workspace = malloc(bytes);
  *     float list[3 * 1024];
@@ -50,6 +50,13 @@ static inline steyrbunk_settings steyrbunk_defaults(void) {
         STEYRBUNK_RAY_RADIUS, STEYRBUNK_IMAGE_UPSAMPLE, STEYRBUNK_RESPONSE_BLUR_RADIUS, STEYRBUNK_PEAK_FIT,
         STEYRBUNK_THRESHOLD_REL, STEYRBUNK_NMS_RADIUS, STEYRBUNK_MIN_CLUSTER_SIZE,
     };
+    return settings;
+}
+
+/* What sites older than version 0.5.0 start up with: as the defaults, but a suppression radius of 4. */
+static inline steyrbunk_settings steyrbunk_existing_sites(void) {
+    steyrbunk_settings settings = steyrbunk_defaults();
+    settings.nms_radius = STEYRBUNK_EXISTING_SITES_NMS_RADIUS;
     return settings;
 }
 

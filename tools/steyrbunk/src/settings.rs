@@ -46,7 +46,8 @@ pub struct Settings {
 }
 
 impl Default for Settings {
-    /// The defaults of `RadonDetectorParams`.
+    /// The defaults of the proved `RadonDetectorParams`. The suppression radius is 6 since version 0.5.0, which was 4 before: who depended on
+    /// that takes [`Settings::existing_sites`], or names it.
     fn default() -> Self {
         Settings {
             ray_radius: 4,
@@ -54,13 +55,22 @@ impl Default for Settings {
             response_blur_radius: 1,
             peak_fit: PeakFit::Gaussian,
             threshold_rel: 0.28,
-            nms_radius: 4,
+            nms_radius: 6,
             min_cluster_size: 2,
         }
     }
 }
 
 impl Settings {
+    /// What sites older than version 0.5.0 start up with: as the default, but a suppression radius of 4. These are the published Rust's own
+    /// defaults, and do not follow ours.
+    pub fn existing_sites() -> Settings {
+        Settings {
+            nms_radius: 4,
+            ..Settings::default()
+        }
+    }
+
     /// The upsampling factor in force, 1 or 2.
     pub fn factor(&self) -> usize {
         self.image_upsample.clamp(1, 2) as usize

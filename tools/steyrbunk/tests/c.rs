@@ -118,8 +118,8 @@ fn the_example() {
     );
     // An empty panel, and a picture that is too small to be one.
     let grey = |width, height| run(&program, &pgm(&frame(Kind::Flat, width, height)));
-    assert_eq!(grey(10, 10).stdout, b"0 corners\n");
-    for output in [grey(9, 10), grey(0, 0)] {
+    assert_eq!(grey(12, 12).stdout, b"0 corners\n");
+    for output in [grey(11, 12), grey(0, 0)] {
         let words = format!("{}\n", Refusal::FrameTooSmall);
         assert!(words.starts_with("refused 15: the frame is too small to judge"));
         assert_eq!(output.stderr, words.as_bytes());
@@ -379,6 +379,10 @@ fn the_header_and_the_limits() {
         ("RESPONSE_BLUR_RADIUS", response_blur_radius),
         ("NMS_RADIUS", nms_radius),
         ("MIN_CLUSTER_SIZE", min_cluster_size),
+        (
+            "EXISTING_SITES_NMS_RADIUS",
+            Settings::existing_sites().nms_radius,
+        ),
         ("PARABOLIC", PeakFit::Parabolic.number().into()),
         ("GAUSSIAN", PeakFit::Gaussian.number().into()),
     ] {

@@ -84,8 +84,9 @@ static void small(const steyrbunk_settings *settings) {
     size_t count = 99, w = 99, h = 99;
     two.image_upsample = 2, none.ray_radius = 0;
     check(steyrbunk_least_side(&one) == 7 && steyrbunk_least_side(&two) == 4 && steyrbunk_least_side(&none) == 7, "the least side");
-    steyrbunk_settings usual = steyrbunk_defaults();
-    check(steyrbunk_least_side(&usual) == 10, "the least side for the defaults");
+    steyrbunk_settings usual = steyrbunk_defaults(), sites = steyrbunk_existing_sites();
+    check(steyrbunk_least_side(&usual) == 12, "the least side for the defaults");
+    check(steyrbunk_least_side(&sites) == 10, "the least side for the existing sites");
     check(find(one, 6, 7, 42, 0, 1, &count, list) == 15 && find(one, 7, 6, 42, 0, 1, &count, list) == 15, "15");
     check(find(none, 6, 6, 36, 0, 1, &count, list) == 15 && find(two, 3, 4, 12, 0, 1, &count, list) == 15, "15 of ray 0, at factor 2");
     check(find(one, 0, 0, 0, 0, 1, &count, list) == 15 && find(two, 0, 9, 0, 0, 1, &count, list) == 15, "15 of an image without pixels");
@@ -272,7 +273,11 @@ int main(void) {
     moved(0);
     steyrbunk_settings one = steyrbunk_defaults();
     check(one.ray_radius == 4 && one.image_upsample == 2 && one.response_blur_radius == 1 && one.peak_fit == 1, "defaults");
-    check(one.threshold_rel == 0.28f && one.nms_radius == 4 && one.min_cluster_size == 2, "defaults");
+    check(one.threshold_rel == 0.28f && one.nms_radius == 6 && one.min_cluster_size == 2, "defaults");
+    steyrbunk_settings sites = steyrbunk_existing_sites();
+    check(sites.nms_radius == 4, "the existing sites");
+    sites.nms_radius = one.nms_radius;
+    check(memcmp(&sites, &one, sizeof one) == 0, "the existing sites, but for one setting");
     one.ray_radius = 1, one.image_upsample = 1, one.response_blur_radius = 0, one.peak_fit = STEYRBUNK_PARABOLIC, one.nms_radius = 1;
     check(steyrbunk_workspace(7, 7, &one) == 24 * 49 + 52, "the workspace of seven by seven");
     check(steyrbunk_workspace(0, 7, &one) == 0 && steyrbunk_workspace(4097, 1, &one) == 0, "no workspace");

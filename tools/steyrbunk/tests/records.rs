@@ -557,7 +557,7 @@ fn frames_are_kept() {
         (Kind::Board45, 333, 222),
         (Kind::Random, 200, 300),
         (Kind::Flat, 60, 50),
-        (Kind::Flat, 10, 10),
+        (Kind::Flat, 12, 12),
     ] {
         let frame = frame(kind, width, height);
         let found = finder

@@ -189,7 +189,7 @@ fn short_lists() {
 /// The least frame has one candidate at factor 1, or four at factor 2; a side that is larger by so many has as many more.
 #[test]
 fn about_the_border() {
-    for (ray_radius, nms_radius) in [(0, 0), (0, 3), (1, 1), (4, 4), (7, 0), (7, 32)] {
+    for (ray_radius, nms_radius) in [(0, 0), (0, 3), (1, 1), (4, 4), (4, 6), (7, 0), (7, 32)] {
         for image_upsample in [1, 2] {
             let settings = Settings {
                 ray_radius,
@@ -269,7 +269,7 @@ fn the_lists_own_entry() {
         }
     }
     let small = View {
-        width: 18,
+        width: 22,
         ..whole.map().view()
     };
     let settings = Settings::default();
