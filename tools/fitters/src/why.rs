@@ -4,7 +4,7 @@
 use steyrbunk::{PeakFit, Settings, Verdict, Verdicts};
 
 /// Beaten places for each peak. A sharp panel has 20 to 30. What is blurred, or too small to be seen, may have the first of these or
-/// more, and a picture that is hardly more than noise fewer than the second.
+/// more, and nothing that is too flat; a picture that is hardly more than noise has fewer than the second, or peaks that are too flat.
 const BROAD: usize = 50;
 const NARROW: usize = 10;
 
@@ -12,7 +12,7 @@ const NOTHING: &str = "nothing stands out: look for a cover, darkness or plain g
 const THRESHOLD: &str =
     "a threshold of 1 leaves nothing above the floor, whatever the picture shows";
 const OTHER_SETTINGS: &str =
-    "what counts say together is known for the default radii and threshold alone, and these are others";
+    "what counts say together is known for the default settings and those of the existing sites alone, and these are others";
 const FAINT: &str = "peaks too flat or narrow: the picture may be faint or glaring, as by haze, a film on the lens, too little light or too much, and much that is kept may be noise";
 const EDGES: &str = "wrong curvature: edges or spots besides corners, as by specks, glare, something before the panel, or a panel turned far away";
 const NO_SIGN: &str = "no sign of blur, haze, specks or glare";
@@ -74,14 +74,14 @@ fn said(verdicts: Verdicts, settings: &Settings) -> Vec<String> {
     said
 }
 
-/// Whether a frame was searched as those that were measured: the fit moves places alone.
+/// Whether a frame was searched as those that were measured, with one of the sets that have a name: the fit moves places alone.
 fn is_usual(settings: &Settings) -> bool {
     let same = Settings {
         image_upsample: settings.factor() as u32,
         peak_fit: PeakFit::Gaussian,
         ..*settings
     };
-    same == Settings::default()
+    [Settings::default(), Settings::existing_sites()].contains(&same)
 }
 
 /// What speaks for blur, haze, specks or glare, or that nothing does. There is a place above the floor, so there is a peak.
@@ -92,7 +92,7 @@ fn signs(verdicts: Verdicts) -> Vec<String> {
         "broad peaks ({each} beaten for each, 20 to 30 at a sharp panel): out of focus or a film on the lens; with few kept, a panel too far off or turned too far away"
     );
     let signs = [
-        (each >= BROAD, broad),
+        (each >= BROAD && verdicts.too_flat == 0, broad),
         (verdicts.too_flat > 0 || each < NARROW, FAINT.to_string()),
         (verdicts.wrong_curvature > 0, EDGES.to_string()),
     ];
@@ -139,6 +139,7 @@ mod tests {
         assert_eq!(of([1_000, 680, 0, 0, 0, 10])[1..], [KEPT]);
         assert_eq!(of([1_000, 99, 0, 0, 0, 10]), [FAINT, KEPT]);
         assert_eq!(of([1_000, 280, 0, 1, 0, 9]), [FAINT, KEPT]);
+        assert_eq!(of([1_000, 680, 0, 1, 0, 9]), [FAINT, KEPT]);
         assert_eq!(of([1_000, 280, 0, 0, 1, 9]), [EDGES, KEPT]);
         assert_eq!(of([1_000, 280, 0, 1, 1, 8]), [FAINT, EDGES, KEPT]);
         assert_eq!(of([1_000, 280, 0, 0, 10, 0]), [EDGES, KEPT]);
@@ -168,7 +169,7 @@ mod tests {
                 ..usual
             },
             Settings {
-                nms_radius: 6,
+                nms_radius: 5,
                 ..usual
             },
             Settings {
@@ -183,12 +184,14 @@ mod tests {
             );
             assert_eq!(said_of([9, 0, 0, 0, 0, 0], settings), [NOTHING]);
         }
-        let same = Settings {
-            image_upsample: 7,
-            peak_fit: PeakFit::Parabolic,
-            ..usual
-        };
-        assert_eq!(said_of([9, 280, 0, 0, 0, 10], same), [NO_SIGN, KEPT]);
+        for set in [usual, Settings::existing_sites()] {
+            let same = Settings {
+                image_upsample: 7,
+                peak_fit: PeakFit::Parabolic,
+                ..set
+            };
+            assert_eq!(said_of([9, 280, 0, 0, 0, 10], same), [NO_SIGN, KEPT]);
+        }
         let full = Settings {
             threshold_rel: 1.0,
             ..usual

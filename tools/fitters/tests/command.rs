@@ -130,27 +130,127 @@ fn settings_of_frame_files() {
     assert!(error(&output).contains("a.frame: refused 5: the ray radius is over 7"));
 }
 
-/// The defaults are those of the original's own record.
-#[test]
-fn default_settings() {
-    let folder = folder("defaults");
-    let board = judge::made(8, 3, Sizes::up_to(200)).frame;
-    let defaults = Frame {
+/// A picture with the settings of a start, but for the suppression: the default is 6, the existing sites' is 4.
+fn started(suppression: u8) -> Frame {
+    Frame {
         ray: 4,
         upsampling: 2,
         blur: 1,
         mode: 0,
-        suppression: 4,
+        suppression,
         least: 2,
         threshold: 0.28f32.to_bits(),
-        ..board
+        ..judge::made(8, 3, Sizes::up_to(200)).frame
+    }
+}
+
+/// The default settings, and the existing sites', by their name: those of the original's own record.
+#[test]
+fn sets_of_settings() {
+    let folder = folder("sets");
+    fs::write(folder.join("a.pgm"), pgm(&started(6))).unwrap();
+    let [six, four] = [6, 4].map(|radius| judge::printed(&started(radius).bytes(), Room::FREE));
+    assert_ne!(six, four, "a picture that tells them apart");
+    let sites = "--settings=existing-sites";
+    for (words, expected) in [
+        (&[][..], &six),
+        (&["--settings", "default"], &six),
+        (&["--nms-radius", "4"], &four),
+        (&[sites], &four),
+        // What is named singly goes over a set, wherever it stands; of two sets the last one counts.
+        (&[sites, "--nms-radius", "6"], &six),
+        (&["--nms-radius", "6", sites], &six),
+        (&["--settings", "default", sites], &four),
+        (&[sites, "--settings", "default"], &six),
+    ] {
+        let words = [words, &["--peak-fit", "parabolic"]].concat();
+        let output = run(&folder, &[&words[..], &["a.pgm"]].concat());
+        assert_eq!(
+            (&output.stdout, status(&output)),
+            (expected, 0),
+            "{words:?}"
+        );
+        let file = run(&folder, &[&["frame"], &words[..], &["a.pgm"]].concat()).stdout;
+        let radius = if expected == &six { 6 } else { 4 };
+        assert_eq!(file, started(radius).bytes(), "{words:?}");
+    }
+    // The Gaussian fit is that of both; it moves places, not counts.
+    let line = |text: &[u8]| {
+        String::from_utf8_lossy(text)
+            .lines()
+            .next()
+            .map(str::to_string)
     };
-    fs::write(folder.join("a.pgm"), pgm(&defaults)).unwrap();
-    let output = run(&folder, &["--peak-fit", "parabolic", "a.pgm"]);
-    assert_eq!(output.stdout, judge::printed(&defaults.bytes(), Room::FREE));
-    // The Gaussian fit is the default; it moves places, not counts.
-    let line = |text: String| text.lines().next().unwrap().to_string();
-    assert_eq!(line(out(&run(&folder, &["a.pgm"]))), line(out(&output)));
+    assert_eq!(line(&run(&folder, &["a.pgm"]).stdout), line(&six));
+    assert_eq!(line(&run(&folder, &[sites, "a.pgm"]).stdout), line(&four));
+    // The manifest has the numbers, whatever they were named by.
+    run(&folder, &[sites, "--out", "lists", "a.pgm"]);
+    let manifest = fs::read_to_string(folder.join("lists/run.json")).unwrap();
+    let settings = "\"settings\":{\"ray_radius\":4,\"image_upsample\":2,\"response_blur_radius\":1,\"peak_fit\":\"gaussian\",\"threshold_rel\":0.28,\"nms_radius\":4,\"min_cluster_size\":2},";
+    assert!(manifest.contains(settings), "{manifest}");
+    for words in [
+        &["--settings", "sites", "a.pgm"][..],
+        &["a.pgm", "--settings"],
+    ] {
+        let output = run(&folder, words);
+        assert_eq!(
+            (out(&output).as_str(), status(&output)),
+            ("", 2),
+            "{words:?}"
+        );
+    }
+    assert!(error(&run(&folder, &["--settings=sites", "a.pgm"]))
+        .contains("no set of settings is called sites"));
+    let help = out(&run(&folder, &["--help"]));
+    for told in [
+        "0 to 32, default 6;",
+        "each side needs 12 pixels or more",
+        "--nms-radius 4, as the published Rust has it",
+    ] {
+        assert!(help.contains(told), "{told}: {help}");
+    }
+}
+
+/// A frame file names its settings: no set changes its list, unless it is put over them.
+#[test]
+fn sets_and_frame_files() {
+    let folder = folder("sets and files");
+    for radius in [4, 6] {
+        let file = started(radius).bytes();
+        let expected = judge::printed(&file, Room::FREE);
+        fs::write(folder.join("a.frame"), file).unwrap();
+        for set in ["default", "existing-sites"] {
+            let output = run(&folder, &["--settings", set, "a.frame"]);
+            assert_eq!((&output.stdout, status(&output)), (&expected, 0));
+            assert!(error(&output).contains("--override"));
+        }
+        assert_eq!(run(&folder, &["a.frame"]).stdout, expected);
+    }
+    // A set has all settings, so nothing of the file's own is left.
+    fs::write(
+        folder.join("a.frame"),
+        Frame {
+            ray: 1,
+            blur: 3,
+            least: 9,
+            ..started(1)
+        }
+        .bytes(),
+    )
+    .unwrap();
+    for (set, radius) in [("default", 6), ("existing-sites", 4)] {
+        let words = [
+            "--settings",
+            set,
+            "--peak-fit=parabolic",
+            "--override",
+            "a.frame",
+        ];
+        let expected = judge::printed(&started(radius).bytes(), Room::FREE);
+        assert_eq!(run(&folder, &words).stdout, expected, "{set}");
+    }
+    let output = run(&folder, &["read", "--settings=default", "a.record"]);
+    assert!(status(&output) == 2 && error(&output).contains("settings do not go with read"));
 }
 
 #[test]
@@ -377,13 +477,13 @@ fn a_cropped_camera() {
         )
     };
     for format in ["list", "csv", "json", "record"] {
-        fs::write(frames.join("dawn.pgm"), grey(10, 10)).unwrap();
+        fs::write(frames.join("dawn.pgm"), grey(12, 12)).unwrap();
         let output = call(format);
         assert_eq!((status(&output), error(&output)), (0, String::new()));
         assert_eq!(results(&lists, "dawn.pgm").len(), 3);
-        fs::write(frames.join("dawn.pgm"), grey(9, 40)).unwrap();
+        fs::write(frames.join("dawn.pgm"), grey(11, 40)).unwrap();
         let output = call(format);
-        let need = "it has 9 by 40 pixels, and with these settings each side needs 10 or more";
+        let need = "it has 11 by 40 pixels, and with these settings each side needs 12 or more";
         let message = format!("frames/dawn.pgm: refused 15: {TOO_SMALL}; {need}\n");
         assert_eq!((status(&output), error(&output)), (1, message));
         assert!(results(&lists, "dawn.pgm").is_empty());
@@ -420,8 +520,10 @@ fn the_least_sizes() {
     let small = || ("refused 15\n".to_string(), 1);
     let radii = ["--ray-radius=7", "--nms-radius=32"];
     for (least, factor, words) in [
-        (10, 2, &[][..]),
-        (19, 1, &["--image-upsample=1"]),
+        (12, 2, &[][..]),
+        (23, 1, &["--image-upsample=1"]),
+        (10, 2, &["--settings=existing-sites"]),
+        (19, 1, &["--settings=existing-sites", "--image-upsample=1"]),
         (7, 1, &SETTINGS),
         (7, 1, &[&SETTINGS[..], &["--ray-radius=0"]].concat()),
         (41, 2, &radii),
@@ -509,20 +611,20 @@ fn frame_files_of_pictures() {
     assert_eq!(output.stdout.len(), 2360);
     fs::write(folder.join("small.pgm"), picture(30, 30)).unwrap();
     assert!(error(&run(&folder, &["frame", "small.pgm"])).contains("3600 working pixels"));
-    fs::write(folder.join("cropped.pgm"), picture(600, 9)).unwrap();
-    fs::write(folder.join("least.pgm"), picture(10, 10)).unwrap();
+    fs::write(folder.join("cropped.pgm"), picture(600, 11)).unwrap();
+    fs::write(folder.join("least.pgm"), picture(12, 12)).unwrap();
     let note =
-        "note: too small to judge, 15: with these settings each side needs 10 pixels or more";
+        "note: too small to judge, 15: with these settings each side needs 12 pixels or more";
     let output = run(&folder, &["frame", "--image-upsample=2", "cropped.pgm"]);
     assert_eq!(
         error(&output),
-        "cropped.pgm: note: 5420 bytes: the program `corners` has room for 2324 and answers 10\n"
+        "cropped.pgm: note: 6620 bytes: the program `corners` has room for 2324 and answers 10\n"
     );
-    fs::write(folder.join("cropped.pgm"), picture(200, 9)).unwrap();
+    fs::write(folder.join("cropped.pgm"), picture(200, 11)).unwrap();
     let output = run(&folder, &["frame", "cropped.pgm"]);
     assert_eq!(
         (error(&output), output.stdout.len()),
-        (format!("cropped.pgm: {note}\n"), 1820)
+        (format!("cropped.pgm: {note}\n"), 2220)
     );
     assert_eq!(error(&run(&folder, &["frame", "least.pgm"])), "");
     let output = run(&folder, &["frame", "--ray-radius", "256", "small.pgm"]);

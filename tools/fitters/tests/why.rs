@@ -45,7 +45,7 @@ fn pgm(width: usize, height: usize, pixel: impl Fn(usize, usize) -> u8) -> Vec<u
 
 /// A board of 64 by 48, as docs/USING.md has it: nine corners.
 fn board() -> Vec<u8> {
-    pgm(64, 48, |x, y| [40, 120][((x + 3) / 16 + (y + 5) / 16) % 2])
+    pgm(64, 48, |x, y| [40, 120][((x + 3) / 16 + (y + 8) / 16) % 2])
 }
 
 /// Document 01's frame with one setting that is refused, 5.
@@ -317,7 +317,7 @@ fn words() {
     // Settings that nothing was measured with, and one that leaves nothing.
     fs::write(folder.join("a.frame"), document_frame().bytes()).unwrap();
     let output = run(&folder, &["--why", "a.frame"]);
-    let others = "what counts say together is known for the default radii and threshold alone, and these are others";
+    let others = "what counts say together is known for the default settings and those of the existing sites alone, and these are others";
     let line = format!(
         "a.frame: why: {}{others}{kept}\n",
         counted([0, 0, 0, 0, 0, 1])

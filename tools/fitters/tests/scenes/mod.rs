@@ -289,3 +289,16 @@ pub fn scenes(variant: u32) -> Vec<Scene> {
         Scene::of("black, no noise", seed, |_| 0.0).silent(),
     ]
 }
+
+/// A panel with squares of so many pixels, blurred by so many means, turned in the picture by 0° to 45° in ten steps.
+pub fn turned(square: f64, means: usize) -> Vec<Scene> {
+    let scene = |step: u32| {
+        let turn = (9.0, f64::from(step));
+        let pose = Pose {
+            turn,
+            ..Pose::straight(step).sized(square)
+        };
+        Scene::panel("turned", step.into(), pose).blurred(means, WIDTH)
+    };
+    (0..10).map(scene).collect()
+}
