@@ -113,9 +113,9 @@ fn row(cameras: usize, frame: &Frame, repeats: usize) -> String {
 }
 
 /// The table of arches.
-pub fn times(repeats: usize, picture: &(String, Picture), largest: usize) {
-    let name = &picture.0;
-    println!("Medians of {repeats} turns, {NAME}, one thread; picture: {name}. Both ways have the same frames,");
+pub fn times(repeats: usize, picture: &(String, Picture), largest: usize, base: Settings) {
+    let (name, window) = (&picture.0, base.nms_radius);
+    println!("Medians of {repeats} turns, {NAME}, one thread; picture: {name}, suppression {window}. Both ways have the same frames,");
     println!("buffers and shares of the list. The ratio is the median of the turns' own ratios; the last column has the");
     println!("fastest arch over the fastest single calls.");
     println!();
@@ -132,7 +132,7 @@ pub fn times(repeats: usize, picture: &(String, Picture), largest: usize) {
             },
             settings: Settings {
                 image_upsample: factor,
-                ..Settings::default()
+                ..base
             },
         };
         for cameras in CAMERAS {

@@ -20,22 +20,26 @@ use frames::Picture;
 use library::Library;
 use pass::Pass;
 use sides::{sides, Side};
-use steyrbunk::{Image, PeakFit};
+use steyrbunk::{Image, PeakFit, Settings};
 use table::{Row, Times};
 
 const HELP: &str = "\
 bench times the proved finder against the published Rust, one thread each, and prints Markdown.
 
-  bench [--repeats N] [--picture NAME] [--largest WIDTH]
-  bench [--repeats N] [--picture NAME] [--largest WIDTH] --arch
-  bench [--repeats N] [--picture NAME] [--largest WIDTH] [--parabolic] --before LIBRARY --after LIBRARY
+  bench [--repeats N] [FRAMES]
+  bench [--repeats N] [FRAMES] --arch
+  bench [--repeats N] [FRAMES] [--parabolic] --before LIBRARY --after LIBRARY
   bench [--repeats N] --scalars [--before LIBRARY --after LIBRARY]
   bench --distances [--before LIBRARY --after LIBRARY]
 
   --repeats N       timed calls of each kind, of which the median counts (default 9)
+FRAMES:
   --picture NAME    what the frames show: panel (default; a turned board, twenty cells across), board
                     (small cells), noise or flat
   --largest WIDTH   leaves out frames that are wider
+  --nms-radius N    the suppression radius, 0 to 16; if it is not named 4, that of the existing sites and
+                    of the published Rust's own defaults, with which all earlier figures were taken
+The others:
   --arch            times arches of 2, 4 and 8 cameras beside their single calls instead
   --before, --after times two builds of ours instead, as tools/version makes them, those from before the
                     six counts too
@@ -59,6 +63,9 @@ const SIZES: [(usize, usize); 5] = [
     (4_096, 2_048),
 ];
 
+/// The greatest suppression radius that leaves a candidate in every frame, those of 48 by 48 too.
+const WIDEST: u32 = 16;
+
 /// Width, height and factor of all that are no wider.
 fn sizes(largest: usize) -> Vec<(usize, usize, u32)> {
     let wanted = SIZES.into_iter().filter(|(width, _)| *width <= largest);
@@ -81,7 +88,8 @@ struct Options {
     ask: Ask,
     /// One build of ours before a change, and one after it.
     versions: Option<[Library; 2]>,
-    peak_fit: PeakFit,
+    /// Those of the frames, but for the factor and a map's blur.
+    settings: Settings,
     repeats: usize,
     picture: (String, Picture),
     largest: usize,
@@ -91,7 +99,7 @@ fn options(mut words: Words) -> Result<Options, Usage> {
     let mut options = Options {
         ask: Ask::Table,
         versions: None,
-        peak_fit: PeakFit::Gaussian,
+        settings: Settings::existing_sites(),
         repeats: 9,
         picture: ("panel".to_string(), Picture::Panel),
         largest: usize::MAX,
@@ -106,7 +114,11 @@ fn options(mut words: Words) -> Result<Options, Usage> {
             "--arch" => options.ask = Ask::Arch,
             "--before" => before = Some(words.value(&flag, "a library")?),
             "--after" => after = Some(words.value(&flag, "a library")?),
-            "--parabolic" => options.peak_fit = PeakFit::Parabolic,
+            "--parabolic" => options.settings.peak_fit = PeakFit::Parabolic,
+            "--nms-radius" => match words.value(&flag, "0 to 16")? {
+                radius @ 0..=WIDEST => options.settings.nms_radius = radius,
+                radius => return Usage::wrong(format!("{flag} wants 0 to 16, not '{radius}'")),
+            },
             "--scalars" => options.ask = Ask::Scalars,
             "--distances" => options.ask = Ask::Distances,
             "--largest" => options.largest = words.value(&flag, "a width")?,
@@ -126,7 +138,7 @@ fn options(mut words: Words) -> Result<Options, Usage> {
         _ => return Usage::wrong("--before and --after go together"),
     }
     let table = matches!(options.ask, Ask::Table) && options.versions.is_some();
-    if options.peak_fit == PeakFit::Parabolic && !table {
+    if options.settings.peak_fit == PeakFit::Parabolic && !table {
         return Usage::wrong("--parabolic is for the table of two builds");
     }
     if matches!(options.ask, Ask::Arch) && options.versions.is_some() {
@@ -164,6 +176,7 @@ impl Copy {
 struct Frame<'a> {
     image: Image<'a>,
     factor: u32,
+    settings: Settings,
     repeats: usize,
     copy: &'a mut Copy,
 }
@@ -175,7 +188,7 @@ impl Frame<'_> {
 
     /// The three sides turn by turn, after one call of each that does not count.
     fn row(&mut self, pass: Pass) -> Row {
-        let mut sides = sides(self.image, pass.settings(self.factor));
+        let mut sides = sides(self.image, pass.settings(self.settings, self.factor));
         let counts = sides.each_mut().map(|side| side.count());
         assert_eq!(counts, [counts[0]; 3], "corners");
         let moved = pass.moved(self.image.pixels.len(), self.working());
@@ -216,7 +229,11 @@ fn left(side: &dyn Side) -> (&[u8], Vec<u32>) {
 
 fn run(options: &Options) {
     let mut copy = Copy::new(Pass::Whole.moved(limits::WORKING, limits::WORKING) / 2);
-    table::open(options.repeats, &options.picture.0);
+    table::open(
+        options.repeats,
+        &options.picture.0,
+        options.settings.nms_radius,
+    );
     for (width, height, factor) in sizes(options.largest) {
         let pixels = options.picture.1.pixels(width, height);
         let mut frame = Frame {
@@ -226,6 +243,7 @@ fn run(options: &Options) {
                 height,
             },
             factor,
+            settings: options.settings,
             repeats: options.repeats,
             copy: &mut copy,
         };
@@ -240,11 +258,13 @@ fn main() -> ExitCode {
     console::run("bench", HELP, |words| {
         let options = options(words)?;
         let (repeats, picture, largest) = (options.repeats, &options.picture, options.largest);
-        let (versions, fit) = (options.versions.as_ref(), options.peak_fit);
+        let (versions, settings) = (options.versions.as_ref(), options.settings);
         match (&options.ask, versions) {
             (Ask::Table, None) => run(&options),
-            (Ask::Table, Some(two)) => versions::times(two, repeats, picture, &sizes(largest), fit),
-            (Ask::Arch, _) => arch::times(repeats, picture, largest),
+            (Ask::Table, Some(two)) => {
+                versions::times(two, repeats, picture, &sizes(largest), settings);
+            }
+            (Ask::Arch, _) => arch::times(repeats, picture, largest, settings),
             (Ask::Scalars, None) => scalars::times(repeats),
             (Ask::Scalars, Some(two)) => scalars::both(two, repeats),
             (Ask::Distances, two) => scalars::distances(two),

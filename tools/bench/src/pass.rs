@@ -41,11 +41,11 @@ impl Pass {
         }
     }
 
-    /// The default settings but for the blur of a map.
-    pub fn settings(self, factor: u32) -> Settings {
+    /// The settings of the call at that factor, but for the blur of a map.
+    pub fn settings(self, base: Settings, factor: u32) -> Settings {
         let mut settings = Settings {
             image_upsample: factor,
-            ..Settings::default()
+            ..base
         };
         if let Pass::Map(radius) | Pass::Blur(radius) = self {
             settings.response_blur_radius = radius;

@@ -41,14 +41,14 @@ pub struct Row {
     pub times: Times,
 }
 
-pub fn open(repeats: usize, picture: &str) {
+pub fn open(repeats: usize, picture: &str, suppression: u32) {
     let (arch, system) = (std::env::consts::ARCH, std::env::consts::OS);
     println!(
         "Medians of {repeats} calls, {}, one thread, release builds, {arch} {system}.",
         clock::NAME
     );
     println!(
-        "Picture: {picture}. Buffers are kept from call to call and not cleared, on all sides."
+        "Picture: {picture}; suppression {suppression}. Buffers are kept from call to call and not cleared, on all sides."
     );
     println!();
     println!("| Frame and factor | Pass | Corners | Ours, ns a working pixel | Rust, default | Rust, u32 tables | Default / ours | u32 / ours | Bytes moved a working pixel | Ours / a copy that moves as much |");

@@ -128,11 +128,10 @@ macro_rules! lend_six {
 }
 
 impl<'a> Bench<'a> {
-    fn new(image: Image<'a>, factor: u32, peak_fit: PeakFit) -> Self {
+    fn new(image: Image<'a>, factor: u32, base: Settings) -> Self {
         let settings = Settings {
             image_upsample: factor,
-            peak_fit,
-            ..Settings::default()
+            ..base
         };
         let mut finder = Finder::new();
         let found = finder.find(image, &settings).expect("an accepted frame");
@@ -330,13 +329,13 @@ pub fn times(
     repeats: usize,
     picture: &(String, Picture),
     sizes: &[(usize, usize, u32)],
-    peak_fit: PeakFit,
+    base: Settings,
 ) {
-    let name = &picture.0;
+    let (name, peak_fit, window) = (&picture.0, base.peak_fit, base.nms_radius);
     // Where both builds have one logarithm, Gaussian places too must be the same.
     let differ = peak_fit == PeakFit::Gaussian && scalars::differ(libraries);
     let mut places = differ.then(Places::default);
-    println!("Medians of {repeats} turns, {NAME}, one thread; picture: {name}, {peak_fit:?} peaks. Both builds have the");
+    println!("Medians of {repeats} turns, {NAME}, one thread; picture: {name}, {peak_fit:?} peaks, suppression {window}. Both builds have the");
     println!("same frames and buffers, and before the turns must leave the same in each. The ratio is the median of the");
     println!("turns' own ratios. {}", six_counts(libraries));
     println!();
@@ -349,7 +348,7 @@ pub fn times(
             width,
             height,
         };
-        let mut bench = Bench::new(image, factor, peak_fit);
+        let mut bench = Bench::new(image, factor, base);
         for part in PARTS {
             let lists = matches!(part.0, Part::List | Part::Whole);
             bench.row(libraries, part, repeats, places.as_mut().filter(|_| lists));

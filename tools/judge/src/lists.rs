@@ -180,7 +180,7 @@ fn board(width: usize, height: usize) -> Vec<u8> {
 }
 
 /// Frames about the least size, at both factors: of document 01's frame, with ray 0, which counts as 1, without suppression, of
-/// the defaults, and of the greatest border of which the program has room for a frame.
+/// the original's own defaults, and of the greatest border of which the program has room for a frame.
 fn bordered() -> Vec<Frame> {
     let radii = [(1, 1), (0, 1), (1, 0), (4, 4), (7, 15)];
     let each = |(ray, suppression)| [1, 2].map(|up| about_the_border(ray, suppression, up));
