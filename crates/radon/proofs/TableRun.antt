@@ -1,5 +1,5 @@
--- Document 01's "Run" numbers that the definitions decide, and document 02's of frames too small to judge and of the defaults, as one claim: what the table
--- of answers says, a frame without a corner, and the frame's own corner. Assumes nothing.
+-- Document 01's "Run" numbers that the definitions decide, and document 02's of frames too small to judge and of the defaults, as one claim: what
+-- the table of answers says, a frame without a corner, and the frame's own corner. Assumes nothing.
 use mathlib.Core.Path.{_≡_, refl}
 use mathlib.Core.List.{List, [], _∷_}
 use Prim.Native.Nat.{ℕ, _*_}
