@@ -87,8 +87,8 @@ extern "C" {
 #define STEYRBUNK_FEWEST_CAMERAS 2u
 #define STEYRBUNK_MOST_CAMERAS 8u
 
-/* The default settings. The suppression radius is 6 since version 0.5.0 of the tools, and was 4: a program that depended on that
- * names STEYRBUNK_EXISTING_SITES_NMS_RADIUS, or compiled against this header it searches with 6. */
+/* The default settings. The suppression radius is 6 since version 0.5.0 of the tools, and was 4. A program that depended on 4
+ * names STEYRBUNK_EXISTING_SITES_NMS_RADIUS; otherwise it searches with 6 once it is compiled against this header. */
 #define STEYRBUNK_RAY_RADIUS 4u
 #define STEYRBUNK_IMAGE_UPSAMPLE 2u
 #define STEYRBUNK_RESPONSE_BLUR_RADIUS 1u

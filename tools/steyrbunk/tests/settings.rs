@@ -25,27 +25,19 @@ fn the_proved_sets() {
             .and_then(|(_, value)| value.split_once(';'));
         value.expect("a value").0.parse().expect("a number")
     };
-    let Settings {
-        ray_radius,
-        image_upsample,
-        response_blur_radius,
-        peak_fit,
-        threshold_rel,
-        nms_radius,
-        min_cluster_size,
-    } = Settings::default();
+    let usual = Settings::default();
     for (name, value) in [
-        ("RAY_RADIUS", ray_radius as f32),
-        ("IMAGE_UPSAMPLE", image_upsample as f32),
-        ("RESPONSE_BLUR_RADIUS", response_blur_radius as f32),
-        ("THRESHOLD_REL", threshold_rel),
-        ("NMS_RADIUS", nms_radius as f32),
-        ("MIN_CLUSTER_SIZE", min_cluster_size as f32),
+        ("RAY_RADIUS", usual.ray_radius as f32),
+        ("IMAGE_UPSAMPLE", usual.image_upsample as f32),
+        ("RESPONSE_BLUR_RADIUS", usual.response_blur_radius as f32),
+        ("THRESHOLD_REL", usual.threshold_rel),
+        ("NMS_RADIUS", usual.nms_radius as f32),
+        ("MIN_CLUSTER_SIZE", usual.min_cluster_size as f32),
     ] {
         assert_eq!(constant(&format!("DEFAULT_{name}")), value, "{name}");
     }
     assert!(proved.contains("peak_fit: PeakFitMode::Gaussian,"));
-    assert_eq!((peak_fit, nms_radius), (PeakFit::Gaussian, 6));
+    assert_eq!((usual.peak_fit, usual.nms_radius), (PeakFit::Gaussian, 6));
     let sites = Settings::existing_sites();
     assert_eq!(
         constant("EXISTING_SITES_NMS_RADIUS"),
@@ -55,7 +47,7 @@ fn the_proved_sets() {
         sites,
         Settings {
             nms_radius: 4,
-            ..Settings::default()
+            ..usual
         }
     );
 }
