@@ -142,6 +142,9 @@ for number, arguments, settings in (
 # Empty, and large enough to be.
 empty = finder.find(bytes(144), 12, 12)
 check((empty, empty.width, empty.height), ([], 24, 24))
+over = {**steyrbunk.EXISTING_SITES, "image_upsample": 1}
+refused(15, finder.find, bytes(324), 18, 18, **over)
+check(finder.find(bytes(361), 19, 19, **over).width, 19)
 empty = finder.find(bytes(100), 10, 10, **steyrbunk.EXISTING_SITES)
 check((empty, empty.width, empty.height), ([], 20, 20))
 

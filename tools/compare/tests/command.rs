@@ -308,6 +308,41 @@ fn pictures() {
     }
 }
 
+/// Pictures with the default settings, and by their name with the Rust's own: the two differ in which frames are too small.
+#[test]
+fn sets_of_settings() {
+    let folder = folder("sets");
+    let grey = |side: usize| {
+        [
+            format!("P5 {side} {side} 255\n").as_bytes(),
+            &vec![100; side * side],
+        ]
+        .concat()
+    };
+    for side in [9, 10, 11, 12] {
+        fs::write(folder.join(format!("{side}.pgm")), grey(side)).unwrap();
+    }
+    for (words, least) in [
+        (&[][..], 12),
+        (&["--settings", "default"], 12),
+        (&["--settings", "existing-sites"], 10),
+        (&["--settings=existing-sites", "--nms-radius=5"], 11),
+    ] {
+        let (text, status) = run(&folder, &[words, &["."]].concat());
+        assert_eq!(status, 0, "{text}");
+        for side in [9, 10, 11, 12] {
+            let told = match side < least {
+                true => "agreed, refused 15, too small for a list",
+                false => "agreed, 0 corners",
+            };
+            assert!(
+                text.contains(&format!("{side}.pgm: {told}")),
+                "{words:?}: {text}"
+            );
+        }
+    }
+}
+
 /// The program is held line by line: one that answers otherwise is seen, on sound and on damaged files.
 #[cfg(unix)]
 #[test]

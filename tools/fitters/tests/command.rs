@@ -174,6 +174,14 @@ fn sets_of_settings() {
         let radius = if expected == &six { 6 } else { 4 };
         assert_eq!(file, started(radius).bytes(), "{words:?}");
     }
+    // Cameras that are pictures are searched with the set too, and each list is that of its picture alone.
+    for (set, list) in [("default", &six), ("existing-sites", &four)] {
+        let words = ["arch", "--quiet", "--peak-fit=parabolic", "--settings", set];
+        let output = run(&folder, &[&words[..], &["a.pgm", "a.pgm"]].concat());
+        let list = String::from_utf8_lossy(list);
+        let expected = format!("# camera 1: a.pgm\n{list}# camera 2: a.pgm\n{list}");
+        assert_eq!((out(&output), status(&output)), (expected, 0), "{set}");
+    }
     // The Gaussian fit is that of both; it moves places, not counts.
     let line = |text: &[u8]| {
         String::from_utf8_lossy(text)
