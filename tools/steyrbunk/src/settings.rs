@@ -63,7 +63,7 @@ impl Default for Settings {
 
 impl Settings {
     /// What sites older than version 0.5.0 start up with: as the default, but a suppression radius of 4. These are the published Rust's own
-    /// defaults, and do not follow ours.
+    /// defaults, and a test holds them to it should another default of ours move.
     pub fn existing_sites() -> Settings {
         Settings {
             nms_radius: 4,
