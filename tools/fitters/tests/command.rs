@@ -208,7 +208,7 @@ fn sets_of_settings() {
         );
     }
     assert!(error(&run(&folder, &["--settings=sites", "a.pgm"]))
-        .contains("no set of settings is called sites; there are default and existing-sites"));
+        .contains("--settings wants default or existing-sites, not 'sites'"));
     let help = out(&run(&folder, &["--help"]));
     for told in [
         "0 to 32, default 6;",

@@ -65,12 +65,7 @@ impl Named {
                 self.set = match words.value::<String>(flag, &wanted)?.as_str() {
                     DEFAULT => Some(Settings::default()),
                     EXISTING_SITES => Some(Settings::existing_sites()),
-                    name => {
-                        let sets = format!("there are {DEFAULT} and {EXISTING_SITES}");
-                        return Usage::wrong(format!(
-                            "no set of settings is called {name}; {sets}"
-                        ));
-                    }
+                    name => return Usage::wrong(format!("{flag} wants {wanted}, not '{name}'")),
                 }
             }
             "--ray-radius" => self.ray_radius = Some(words.value(flag, WHOLE)?),
