@@ -171,6 +171,16 @@ module _ (img : List ℕ) (w h : ℕ) (p : RadonDetectorParams) (b : Buffers) (a
   x-left : (i : ℕ) → i < writtenBy img w h p b → xOf (listLeft img w h p b) i ≡ entry (numbers p (mapLeft img w h p b) (cornerAt i)) 0
   x-left i l = ap (entry (listLeft img w h p b)) (sym (add-zero (stride * i))) ∙ number-left i 0 l (lit< tt)
 
+  -- its pixel is a candidate's, and its strength the value there
+  pub corner-inner : (i : ℕ) → i < writtenBy img w h p b → Inner p (sideOf w p) (sideOf h p) (cornerAt i)
+  corner-inner i l =
+      let inner = corners-inner p (sideOf w p) (sideOf h p) (mapLeft img w h p b) (imageLeft img w h p b) in
+      all-at (Inner p (sideOf w p) (sideOf h p)) (cornersLeft img w h p b) i (place 0 0) inner (omega arith)
+
+  pub strength-left : (i : ℕ) → i < writtenBy img w h p b → strengthOf (listLeft img w h p b) i ≡ at (mapLeft img w h p b) (cornerAt i)
+  unfolding numbers
+  strength-left i l = number-left i 2 l (lit< tt)
+
   module _ (bytes : Bytes img) where
     -- the strength of a corner is a map value
     strength-finite : (q : Place) → Inner p (sideOf w p) (sideOf h p) q → T (finite (at (mapLeft img w h p b) q))
@@ -186,13 +196,9 @@ module _ (img : List ℕ) (w h : ℕ) (p : RadonDetectorParams) (b : Buffers) (a
     pub list-on-frame : (i : ℕ) → i < writtenBy img w h p b
         → OnFrame w h (xOf (listLeft img w h p b) i) (yOf (listLeft img w h p b) i) (strengthOf (listLeft img w h p b) i)
     list-on-frame i l =
-        let W = sideOf w p in
-        let H = sideOf h p in
-        let f = mapLeft img w h p b in
-        let cs = cornersLeft img w h p b in
-        let inner : Inner p W H (cornerAt i) = all-at (Inner p W H) cs i (place 0 0) (corners-inner p W H f (imageLeft img w h p b)) (omega arith) in
+        let inner = corner-inner i l in
         rw (x-left i l, number-left i 1 l (lit< tt), number-left i 2 l (lit< tt))
-        (numbers-on-frame p f w h (ran .wide) (ran .high) (cornerAt i) inner (strength-finite (cornerAt i) inner))
+        (numbers-on-frame p (mapLeft img w h p b) w h (ran .wide) (ran .high) (cornerAt i) inner (strength-finite (cornerAt i) inner))
 
     -- every number that is written
     pub list-finite : (k : ℕ) → k < stride * writtenBy img w h p b → T (finite (entry (listLeft img w h p b) k))

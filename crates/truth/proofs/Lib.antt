@@ -1,0 +1,7 @@
+-- How true the blurred map is, as theorems (open this first), and the steps to them.
+pub mod HowTrue
+pub mod Worked
+pub mod Fifteen
+pub mod Blurred
+pub mod Windows
+pub mod Strengths
