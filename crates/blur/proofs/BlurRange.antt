@@ -36,7 +36,7 @@ number v (inr q) = (ranged-finite q, ranged-above q)
 
 -- ---- counts and their reciprocals
 
-count-value : (n : ℕ) → n ≤ 7 → HasValue (ofInt binary32 (pos n)) false n 1
+pub count-value : (n : ℕ) → n ≤ 7 → HasValue (ofInt binary32 (pos n)) false n 1
 unfolding ofInt
 count-value n b = round-whole binary32 false n (omega arith)
 
@@ -70,10 +70,10 @@ one-of : (P : ℕ → Float → Type 0) → ((i : ℕ) → i < 7 → P (suc i) (
 one-of P h zero a b = absurd (omega arith)
 one-of P h (suc i) a b = h i (omega arith)
 
-window-few : (n r x : ℕ) → r ≤ 3 → counted n r x ≤ 7
+pub window-few : (n r x : ℕ) → r ≤ 3 → counted n r x ≤ 7
 window-few n r x b = omega arith
 
-window-some : (n r x : ℕ) → x < n → 0 < counted n r x
+pub window-some : (n r x : ℕ) → x < n → 0 < counted n r x
 window-some n r x b = omega arith
 
 module _ (j : ℕ) (J : j ≤ 90) where

@@ -1,11 +1,11 @@
 -- Numbers that are a fraction but for some roundings: `Rounded k p q x` says that x is finite, without a sign, and p / q moved k times by at most
 -- its 2 ^ 24th part. One law an operation, over plain fractions first. Assumes nothing.
-use mathlib.Core.Path.{_≡_, ap, _∙_}
+use mathlib.Core.Path.{_≡_, ap}
 use mathlib.Core.Logic.{inl, inr}
 use mathlib.Core.Bool.{true, false, true≢false}
 use borrow.Author.Tests.{ne-eqb}
 use Prim.Native.Nat.{ℕ, zero, suc, _+_, _-_, _*_, _^_, _≤_, _<_}
-use native.Mathlib.Nat.{le-trans, le-of-eq, lt-of-le-of-lt, eq-zero-or-pos, add-zero, add-suc, one-mul, zero-mul, pow-suc, mul-pos}
+use native.Mathlib.Nat.{le-trans, lt-of-le-of-lt, eq-zero-or-pos, add-zero, add-suc, one-mul, zero-mul, pow-suc, mul-pos}
 use native.Mathlib.Nat.{mul-le-mul, mul-le-mul-left, mul-le-mul-right, le-of-mul-le-mul-right}
 use native.Mathlib.Omega.{arith}
 use lib.Dec.{T, lit<, lit≤}

@@ -1,15 +1,12 @@
 -- The box blur by its roundings. Of a map whose values are whole numbers but for k roundings, a blurred value is its window's total by its
 -- window's pixels, but for k and one for each column of the window, each row and one more. Assumes nothing.
-use mathlib.Core.Path.{_≡_, refl, sym, ap, _∙_}
-use mathlib.Core.Bool.{false}
+use mathlib.Core.Path.{_≡_, _∙_}
 use Prim.Native.Nat.{ℕ, zero, suc, _+_, _-_, _*_, _^_, _≤_, _<_}
 use native.Mathlib.Nat.{le-trans, mul-le-mul, mul-le-mul-left, mul-pos, add-zero, zero-add, add-suc, mul-one, one-mul}
 use native.Mathlib.Omega.{arith}
 use lib.Dec.{T, lit<, lit≤}
 use lib.IntN.{pos}
 use lib.Ieee.{Float, binary32, fits, mul, div, ofInt}
-use lib.Ieee.Back.{round-whole}
-use lib.Ieee.Exact.{HasValue}
 use lib.Ieee.Fits.{div-fits}
 use lib.ListN.{length}
 use Rattle.float.specs.Values.{f1}
@@ -18,12 +15,9 @@ use Rattle.grid.specs.Fold.{fold, fsum, sumTo}
 use Rattle.grid.proofs.Fold.{sum-one, sum-most}
 use Rattle.means.specs.Means.{counted, windowSum, meanAt, columnMean}
 use Rattle.blur.specs.Blur.{rowMean, blurAt}
+use Rattle.blur.proofs.BlurRange.{count-value, window-few, window-some}
 use Rattle.truth.specs.Truth.{window, total}
 use Rattle.truth.proofs.Windows.{window-total, window-pixels}
-
-count-value : (n : ℕ) → n ≤ 7 → HasValue (ofInt binary32 (pos n)) false n 1
-unfolding ofInt
-count-value n b = round-whole binary32 false n (omega arith)
 
 -- ---- values, each P i / q but for k roundings
 
@@ -62,12 +56,6 @@ module _ (f : ℕ → Float) (P : ℕ → ℕ) (k q : ℕ) (some : 0 < q) (first
 
 -- ---- the two passes
 
-few : (n r x : ℕ) → r ≤ 3 → counted n r x ≤ 7
-few n r x b = omega arith
-
-some : (n r x : ℕ) → x < n → 0 < counted n r x
-some n r x b = omega arith
-
 at-most : (k c d : ℕ) → c ≤ 7 → d ≤ 7 → k + c + d + 1 ≤ k + 15
 at-most k c d m n = omega arith
 
@@ -79,30 +67,30 @@ module _ (k : ℕ) (K : k ≤ 16) (g : ℕ → ℕ → Float) (G : ℕ → ℕ �
 
   along-most : (r x y : ℕ) → r ≤ 3 → along r x y ≤ 2 ^ 35
   unfolding along
-  along-most r x y b = omega (arith, sum-most (λ i. G (x - r + i) y) (2 ^ 32) (counted w r x) (λ i. below (x - r + i) y), few w r x b)
+  along-most r x y b = omega (arith, sum-most (λ i. G (x - r + i) y) (2 ^ 32) (counted w r x) (λ i. below (x - r + i) y), window-few w r x b)
 
   row-rounded : (r x y : ℕ) → r ≤ 3 → x < w → Rounded (k + counted w r x) (along r x y) (counted w r x) (rowMean g w r x y)
   unfolding rowMean meanAt windowSum along
   row-rounded r x y b a =
       let c = counted w r x in
-      let n = few w r x b in
-      let room : Room (along r x y) (1 * c) = record { some = omega (arith, some w r x a); few = omega arith; most = le-trans (along-most r x y b) (lit≤ tt) } in
+      let n = window-few w r x b in
+      let room : Room (along r x y) (1 * c) = record { some = omega (arith, window-some w r x a); few = omega arith; most = le-trans (along-most r x y b) (lit≤ tt) } in
       rw one-mul at
-      (mean-rounded (λ i. g (x - r + i) y) (λ i. G (x - r + i) y) k 1 (lit< tt) (fit (x - r + 0) y) c (omega arith) (some w r x a) n room
+      (mean-rounded (λ i. g (x - r + i) y) (λ i. G (x - r + i) y) k 1 (lit< tt) (fit (x - r + 0) y) c (omega arith) (window-some w r x a) n room
       (λ i _. is (x - r + i) y))
 
   total-most : (r x y : ℕ) → r ≤ 3 → sumTo (λ j. along r x (y - r + j)) (counted h r y) ≤ 2 ^ 40
-  total-most r x y b = omega (arith, sum-most (λ j. along r x (y - r + j)) (2 ^ 35) (counted h r y) (λ j. along-most r x (y - r + j) b), few h r y b)
+  total-most r x y b = omega (arith, sum-most (λ j. along r x (y - r + j)) (2 ^ 35) (counted h r y) (λ j. along-most r x (y - r + j) b), window-few h r y b)
 
   column-rounded : (r x y : ℕ) → r ≤ 3 → x < w → y < h
       → Rounded (k + counted w r x + counted h r y + 1) (sumTo (λ j. along r x (y - r + j)) (counted h r y)) (counted w r x * counted h r y)
       (columnMean (rowMean g w r) h r x y)
   unfolding columnMean windowSum rowMean meanAt
   column-rounded r x y b a c =
-      let n = few w r x b in
-      let m = few h r y b in
-      let s = some w r x a in
-      let t = some h r y c in
+      let n = window-few w r x b in
+      let m = window-few h r y b in
+      let s = window-some w r x a in
+      let t = window-some h r y c in
       let room : Room _ (counted w r x * counted h r y) = record { some = mul-pos s t; few = le-trans (mul-le-mul n m) (lit≤ tt); most = total-most r x y b } in
       scaled-rounded (λ j. rowMean g w r x (y - r + j)) (λ j. along r x (y - r + j)) (k + counted w r x) (counted w r x) s (div-fits binary32 _ _)
       (counted h r y) (omega arith) t m room (λ j _. row-rounded r x (y - r + j) b a)
@@ -123,5 +111,5 @@ module _ (k : ℕ) (K : k ≤ 16) (g : ℕ → ℕ → Float) (G : ℕ → ℕ �
   blur-rounded zero x y b a c =
       rw (total-alone x y a c, window-pixels w h 0 x y, alone w x a, alone h y c) (rounded-upto (k + 15) (omega arith) (is x y))
   blur-rounded (suc r) x y b a c =
-      let used = at-most k (counted w (suc r) x) (counted h (suc r) y) (few w (suc r) x b) (few h (suc r) y b) in
+      let used = at-most k (counted w (suc r) x) (counted h (suc r) y) (window-few w (suc r) x b) (window-few h (suc r) y b) in
       rw (window-total w h (suc r) x y G, window-pixels w h (suc r) x y) (rounded-upto (k + 15) used (column-rounded (suc r) x y b a c))

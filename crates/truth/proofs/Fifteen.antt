@@ -1,5 +1,5 @@
 -- Fifteen roundings move a number by at most its 2 ^ 20th part; sixteen may move it by more. Assumes nothing.
-use mathlib.Core.Path.{_≡_, refl}
+use mathlib.Core.Path.{refl}
 use Prim.Native.Nat.{ℕ, _+_, _-_, _*_, _^_, _≤_, _<_}
 use native.Mathlib.Nat.{mul-le-mul-left, le-of-mul-le-mul-right}
 use native.Mathlib.Omega.{arith}
