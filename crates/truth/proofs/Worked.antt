@@ -1,11 +1,11 @@
 -- Values worked out, E and N beside the f32: in document 01's frame, in windows that are cut, and in a frame on which 2 ^ 21 for 2 ^ 20 would not do.
 -- Assumes nothing.
 use mathlib.Core.Path.{_≡_, refl}
-use mathlib.Core.Bool.{false, cond}
+use mathlib.Core.Bool.{false, cond, _&&_}
 use mathlib.Core.List.{List, [], _∷_}
 use Prim.Native.Nat.{ℕ, _*_, _^_, _<_}
 use lib.Dec.{lit<, eqb}
-use lib.IntN.{negsuc}
+use lib.IntN.{pos, negsuc}
 use lib.ListN.{length, getD}
 use lib.Ieee.{fin, ofBits, ofInt, add, mul, div, sum, round, units, odd, size, span, climb}
 use Rattle.grid.specs.Each.{each}
@@ -22,7 +22,7 @@ use Rattle.truth.specs.Truth.{wholeAt, window, total, apart}
 
 -- N: whole in the middle, cut at a corner, at the right edge and at the lower one, the pixel alone; and that of the last frame below
 pub pixels : (length (window 7 7 3 3 3) ≡ 49) × (length (window 7 7 3 0 0) ≡ 16) × (length (window 7 7 3 6 3) ≡ 28) × (length (window 7 7 2 3 6) ≡ 15)
-    × (length (window 7 7 0 6 6) ≡ 1) × (length (window 21 19 3 10 8) ≡ 49)
+    × (length (window 7 7 0 6 6) ≡ 1) × (length (window 21 21 3 10 10) ≡ 49)
 unfolding window rect range line each from
 pixels = (refl, refl, refl, refl, refl, refl)
 
@@ -42,27 +42,25 @@ blurred = refl
 pub differ : apart (9195103 * 49) (440000 * 1024) ≡ 47
 differ = refl
 
--- ---- a frame, found by search, on which half of the bound is passed: 21 by 19 pixels at ray radius 7 and blur radius 3, about (10,8)
+-- ---- a frame, found by search, on which half of the bound is passed: 21 by 21 pixels at ray radius 7 and blur radius 3, in the middle
 
--- stripes: each column but the first has one grey value
-abbrev first : List ℕ
-first = 24 ∷ 9 ∷ 17 ∷ 9 ∷ 20 ∷ 15 ∷ 8 ∷ 14 ∷ 5 ∷ 49 ∷ 18 ∷ 22 ∷ 13 ∷ 1 ∷ 9 ∷ 5 ∷ 7 ∷ 12 ∷ 9 ∷ []
-
+-- upright stripes, but for one pixel
 abbrev stripes : List ℕ
-stripes = 0 ∷ 12 ∷ 12 ∷ 18 ∷ 10 ∷ 24 ∷ 9 ∷ 255 ∷ 251 ∷ 57 ∷ 59 ∷ 58 ∷ 58 ∷ 58 ∷ 9 ∷ 8 ∷ 10 ∷ 12 ∷ 9 ∷ 10 ∷ 8 ∷ []
+stripes = 4 ∷ 6 ∷ 5 ∷ 5 ∷ 5 ∷ 5 ∷ 0 ∷ 246 ∷ 246 ∷ 53 ∷ 53 ∷ 53 ∷ 53 ∷ 53 ∷ 3 ∷ 11 ∷ 1 ∷ 9 ∷ 7 ∷ 5 ∷ 5 ∷ []
 
 unfoldable pub far : ℕ → ℕ → ℕ
-far x y = cond (eqb x 0) (getD first y 0) (getD stripes x 0)
+far x y = cond (eqb x 0 && eqb y 9) 0 (getD stripes x 0)
 
--- E, and the f32
-pub far-whole : total (wholeAt (workAt 1 far 21 19) 21 19 7) (window 21 19 3 10 8) ≡ 83952862
+-- E
+pub far-whole : total (wholeAt (workAt 1 far 21 21) 21 21 7) (window 21 21 3 10 10) ≡ 117479618
 unfolding wholeAt window total rect range line each from workAt ray fold far raySpread
 far-whole = refl
 
-pub far-blurred : mapAt 1 7 3 far 21 19 10 8 ≡ fin false 13706583 (negsuc 2)
+-- the f32 is 2,397,542
+pub far-blurred : mapAt 1 7 3 far 21 21 10 10 ≡ fin false 1198771 (pos 1)
 unfolding mapAt rawAt workAt blurAt columnMean rowMean meanAt windowSum fold ray far responseAt square raySpread ofInt ofBits add sum mul div round units odd size span climb
 far-blurred = refl
 
--- 49 times it differs from E by more than a 2 ^ 21st part: the bound cannot be halved
-pub past-half : 83952862 * 8 < apart (13706583 * 49) (83952862 * 8) * 2 ^ 21
-past-half = lit< tt
+-- 49 times that differs from E by 60, which is more than a 2 ^ 21st part of E: the bound cannot be halved
+pub past-half : (apart (2397542 * 49) 117479618 ≡ 60) × (117479618 < 60 * 2 ^ 21)
+past-half = (refl, lit< tt)
