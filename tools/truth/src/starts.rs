@@ -1,0 +1,106 @@
+//! Frames that the search begins with.
+
+use judge::random::Random;
+
+use crate::canvas::Shape;
+
+/// Contrast of a stripe whose response, with the longest rays, is just above 2^23: two of them reach 2^24, from where on f32 has every
+/// second whole number only and each small odd square that is added is cut by one.
+const CONTRAST: usize = 193;
+
+/// A shape and its first picture: mostly the stripes above, else stripes, crossed stripes or noise, with any rays and cut windows.
+pub fn start(random: &mut Random, blur: usize) -> (Shape, Vec<u8>) {
+    match random.below(8) {
+        0 => {
+            let shape = anywhere(random, blur);
+            let pixels = (0..shape.width * shape.height).map(|_| random.byte());
+            (shape, pixels.collect())
+        }
+        1 => {
+            let shape = anywhere(random, blur);
+            let (columns, rows) = (levels(random, shape.width), levels(random, shape.height));
+            let level = |x: usize, y: usize| (columns[x] / 2).saturating_add(rows[y] / 2);
+            (shape, drawn(shape, level))
+        }
+        2 => {
+            let shape = anywhere(random, blur);
+            let columns = levels(random, shape.width);
+            (shape, drawn(shape, |x, _| columns[x]))
+        }
+        _ => striped(random, blur),
+    }
+}
+
+/// The stripes alone.
+pub fn striped(random: &mut Random, blur: usize) -> (Shape, Vec<u8>) {
+    let shape = least(limits::RAY as usize, blur);
+    let columns = stripes(random, shape);
+    (shape, drawn(shape, |x, _| columns[x]))
+}
+
+fn drawn(shape: Shape, level: impl Fn(usize, usize) -> u8) -> Vec<u8> {
+    let place = |at: usize| level(at % shape.width, at / shape.width);
+    (0..shape.width * shape.height).map(place).collect()
+}
+
+/// The least frame whose middle pixel has a whole window with rays.
+fn least(ray: usize, blur: usize) -> Shape {
+    let middle = ray + blur;
+    Shape {
+        width: 2 * middle + 1,
+        height: 2 * middle + 1,
+        ray,
+        blur,
+        x: middle,
+        y: middle,
+    }
+}
+
+/// Any rays, any pixel, and sides that may be too short for a whole window.
+fn anywhere(random: &mut Random, blur: usize) -> Shape {
+    let ray = random.range(1, limits::RAY as usize);
+    let side = |random: &mut Random| 2 * ray + random.range(1, 2 * blur + 1);
+    let (width, height) = (side(random), side(random));
+    Shape {
+        width,
+        height,
+        ray,
+        blur,
+        x: random.below(width),
+        y: random.below(height),
+    }
+}
+
+/// A level for each column or row: any of them, or two.
+fn levels(random: &mut Random, count: usize) -> Vec<u8> {
+    let two = [random.byte(), random.byte()];
+    let any = random.percent(50);
+    let level = |_| {
+        if any {
+            random.byte()
+        } else {
+            random.pick(&two)
+        }
+    };
+    (0..count).map(level).collect()
+}
+
+/// Two bright columns at the window's left; its others are the mean of their rays, so that they have next to no response.
+fn stripes(random: &mut Random, shape: Shape) -> Vec<u8> {
+    let (ray, window) = (2 * shape.ray + 1, shape.window());
+    let outside = 2 * CONTRAST / (ray - window.columns);
+    let bright = random.range(CONTRAST + outside, 255);
+    let (flat, dark) = (bright - CONTRAST, bright - CONTRAST - outside);
+    let level = |x: usize| match x.checked_sub(window.left) {
+        Some(0 | 1) => bright,
+        Some(place) if place < window.columns => flat,
+        _ => dark,
+    };
+    let level = |x| level(x) as u8;
+    // The same in black and white: the rays' differences stay.
+    let turned = random.percent(50);
+    let columns = (0..shape.width).map(level);
+    columns
+        .map(|level| if turned { 255 - level } else { level })
+        .collect()
+}
