@@ -171,6 +171,17 @@ impl Canvas {
         }
     }
 
+    /// A column, or a pixel of the first one: with the least frame such a pixel lies on one ray only.
+    pub fn stroke_stripe(&mut self, random: &mut Random) {
+        if random.percent(50) {
+            return self.stroke_column(random);
+        }
+        self.changed.clear();
+        let by = small_step(random);
+        let y = random.below(self.shape.height);
+        self.raise(y * self.shape.width, by);
+    }
+
     /// A pixel raised or lowered, often with a pixel beside it the other way, which leaves most sums as they are.
     pub fn stroke_pixel(&mut self, random: &mut Random) {
         self.changed.clear();

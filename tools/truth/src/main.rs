@@ -29,7 +29,7 @@ without a blur the map must be these numbers exactly. Maps are the library's, of
   --image-upsample U   for pictures, 1 or 2, default 2
   --steps N            strokes of the search for each blur radius: the same seed and number find the
                        same frame
-  --stripes            the search keeps to frames that depend on x alone
+  --stripes            the search keeps to frames that depend on x alone, but for their first column
   --keep FOLDER        the search writes the frames it found there, as PGM pictures
 
 The summary has for each blur radius the pixels, those with E above 0, and the worst share with its

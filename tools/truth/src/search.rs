@@ -5,31 +5,46 @@ use judge::random::Random;
 use crate::canvas::{Canvas, Shape};
 use crate::starts::{start, striped};
 
-/// Strokes from one start: at first whole columns, then single pixels.
-const COLUMNS: u64 = 100_000;
-const PIXELS: u64 = 400_000;
-
-/// How much of the share a stroke may cost at first; by the last one nothing.
-const SLACK: f64 = 0.03;
-
-type Stroke = fn(&mut Canvas, &mut Random);
 type Start = fn(&mut Random, usize) -> (Shape, Vec<u8>);
+
+/// A part of the way from one start.
+#[derive(Clone, Copy)]
+struct Leg {
+    strokes: u64,
+    /// How much of the share a stroke may cost at first; by the last one nothing.
+    slack: f64,
+    stroke: fn(&mut Canvas, &mut Random),
+}
+
+/// Whole columns first, coarsely; then what changes less at a time.
+const COLUMNS: Leg = Leg {
+    strokes: 20_000,
+    slack: 0.03,
+    stroke: Canvas::stroke_column,
+};
+const PIXELS: Leg = Leg {
+    strokes: 480_000,
+    slack: 0.005,
+    stroke: Canvas::stroke_pixel,
+};
+const STRIPES: Leg = Leg {
+    stroke: Canvas::stroke_stripe,
+    ..PIXELS
+};
 
 /// Which frames are searched.
 #[derive(Clone, Copy)]
 pub enum Among {
     All,
-    /// Those that depend on x alone.
+    /// Those that depend on x alone, but for their first column.
     Stripes,
 }
 
 impl Among {
-    /// A start, and the strokes from there with how often each is made.
-    fn plan(self) -> (Start, [(u64, Stroke); 2]) {
-        let columns = (COLUMNS, Canvas::stroke_column as Stroke);
+    fn plan(self) -> (Start, [Leg; 2]) {
         match self {
-            Among::All => (start, [columns, (PIXELS, Canvas::stroke_pixel)]),
-            Among::Stripes => (striped, [columns, columns]),
+            Among::All => (start, [COLUMNS, PIXELS]),
+            Among::Stripes => (striped, [COLUMNS, STRIPES]),
         }
     }
 }
@@ -42,16 +57,16 @@ pub fn search(
     steps: u64,
     mut told: impl FnMut(u64, f64),
 ) -> Option<(Shape, Vec<u8>)> {
-    let (start, plan) = among.plan();
+    let (start, legs) = among.plan();
     let random = &mut Random::new(seed, blur as u64);
     let mut worst: Option<(f64, Shape, Vec<u8>)> = None;
     let mut left = steps;
     while left > 0 {
         let (shape, pixels) = start(random, blur);
         let canvas = &mut Canvas::new(shape, &pixels);
-        for (strokes, stroke) in plan {
-            let strokes = strokes.min(left);
-            climb(canvas, random, strokes, stroke);
+        for leg in legs {
+            let strokes = leg.strokes.min(left);
+            climb(canvas, random, Leg { strokes, ..leg });
             left -= strokes;
         }
         let share = canvas.share();
@@ -67,12 +82,12 @@ pub fn search(
 }
 
 /// Leaves the worst picture that was come by.
-fn climb(canvas: &mut Canvas, random: &mut Random, strokes: u64, stroke: Stroke) {
+fn climb(canvas: &mut Canvas, random: &mut Random, leg: Leg) {
     let mut share = canvas.share();
     let mut worst = (share, canvas.pixels().to_vec());
-    for number in 0..strokes {
-        let slack = SLACK * (strokes - number - 1) as f64 / strokes as f64;
-        stroke(canvas, random);
+    for left in (0..leg.strokes).rev() {
+        let slack = leg.slack * left as f64 / leg.strokes as f64;
+        (leg.stroke)(canvas, random);
         let next = canvas.share();
         if next < share - slack {
             canvas.undo();

@@ -87,7 +87,7 @@ impl fmt::Display for Radius {
             Some((share, name, pixel)) if !share.is_zero() => {
                 writeln!(out, "worst share {share}: {name}, {pixel}")?
             }
-            _ => writeln!(out, "all others exact")?,
+            _ => writeln!(out, "worst share 0")?,
         }
         match self.roundings() {
             roundings if roundings.is_empty() => Ok(()),

@@ -40,7 +40,7 @@ fn made_frames() {
     assert_eq!(frames + refused.parse::<u64>().unwrap(), 300);
     assert!(frames > 250, "{text}");
     // Without a blur all is exact; with one it is not, and the frame is one of those.
-    assert!(lines(&text, "blur 0: ")[0].ends_with(" 0 past the bound; all others exact"));
+    assert!(lines(&text, "blur 0: ")[0].ends_with(" 0 past the bound; worst share 0"));
     for start in ["blur 1: ", "blur 2: ", "blur 3: "] {
         let line = lines(&text, start)[0];
         let (_, worst) = line.split_once("; worst share 0.").unwrap();

@@ -185,8 +185,9 @@ fn the_canvas_has_the_librarys_value() {
         let canvas = &mut Canvas::new(shape, &pixels);
         for stroke in 0..30 {
             let before = canvas.pixels().to_vec();
-            match random.below(2) {
+            match random.below(3) {
                 0 => canvas.stroke_column(random),
+                1 => canvas.stroke_stripe(random),
                 _ => canvas.stroke_pixel(random),
             }
             if stroke % 3 == 0 {
