@@ -25,16 +25,18 @@ without a blur the map must be these numbers exactly. Maps are the library's, of
 
   --blur-radius B      0 to 3; without it all four, and for a search 1 to 3
   --max-side M         made frames with sides up to M; without it they have the program's size
-  --ray-radius R       for pictures, 1 to 7, default 4; a frame file has its own
+  --ray-radius R       for pictures, 1 to 7, default 4; a frame file has its own. For a search: these
+                       rays alone
   --image-upsample U   for pictures, 1 or 2, default 2
   --steps N            strokes of the search for each blur radius: the same seed and number find the
                        same frame
   --stripes            the search keeps to frames that depend on x alone, but for their first column
-  --keep FOLDER        the search writes the frames it found there, as PGM pictures
+  --keep FOLDER        the search writes the worst frame of each blur radius there, as a PGM picture
 
 The summary has for each blur radius the pixels, those with E above 0, and the worst share with its
-frame, pixel, the bits of v, N and E; and the worst by the number of roundings on the way to a pixel.
-What a search tells was made by the library from the frame that was found.
+frame, pixel, the bits of v, N and E; and the worst by the number of roundings on the way to a pixel,
+of which windows that are cut have fewer. What a search tells is the library's, of the worst frames
+that were found for each number of roundings.
 
 The status is 0 if all pixels are within the bound, 1 if one is not, which is told on standard error,
 a file could not be read or there was nothing to look at, 2 if the words of the call are wrong.
@@ -95,7 +97,7 @@ fn task(mut words: Words) -> Result<(Task, Option<u32>), Usage> {
             sizes,
         },
         (Some(seed), None, Some(steps), true) if searched => Task::Search {
-            among,
+            among: rays(among, &named)?,
             seed,
             steps,
             keep,
@@ -108,6 +110,15 @@ fn task(mut words: Words) -> Result<(Task, Option<u32>), Usage> {
         }
     };
     Ok((task, blur))
+}
+
+/// A search for one ray radius, if the call names it.
+fn rays(among: Among, named: &Named) -> Result<Among, Usage> {
+    match (among, named.ray_radius) {
+        (among, None) => Ok(among),
+        (Among::All, Some(ray @ 1..=limits::RAY)) => Ok(Among::Ray(ray as usize)),
+        _ => Usage::wrong("a search wants --stripes or a --ray-radius from 1 to 7"),
+    }
 }
 
 /// What was found of a frame goes into the summary; what may not be goes to standard error.
@@ -232,17 +243,16 @@ fn searched(
             progress.show(done, &format!(", blur {blur}, {share:.4} by the model"));
         });
         progress.clear();
-        let Some((shape, pixels)) = found else {
-            continue;
-        };
-        let canvas = Canvas::new(shape, &pixels);
-        let name = format!("{} by {}, ray {}", shape.width, shape.height, shape.ray);
-        match look(&mut finder, canvas.image(), &shape.settings(), &[blur]) {
-            Ok(looked) => tell(&mut summary, &mut progress, &name, &looked),
-            Err(_) => summary.refused += 1,
-        }
-        if let Some(folder) = keep {
-            kept(folder, &canvas)?;
+        for (number, frame) in found.iter().enumerate() {
+            let (shape, canvas) = (frame.shape, Canvas::new(frame.shape, &frame.pixels));
+            let name = format!("{} by {}, ray {}", shape.width, shape.height, shape.ray);
+            match look(&mut finder, canvas.image(), &shape.settings(), &[blur]) {
+                Ok(looked) => tell(&mut summary, &mut progress, &name, &looked),
+                Err(_) => summary.refused += 1,
+            }
+            if let Some(folder) = keep.filter(|_| number == 0) {
+                kept(folder, &canvas)?;
+            }
         }
     }
     Ok(summary)

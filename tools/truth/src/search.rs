@@ -1,11 +1,11 @@
 //! The search for a large share: frames made to be bad, changed by small strokes that may make them a little better again.
 
+use std::collections::BTreeMap;
+
 use judge::random::Random;
 
 use crate::canvas::{Canvas, Shape};
-use crate::starts::{start, striped};
-
-type Start = fn(&mut Random, usize) -> (Shape, Vec<u8>);
+use crate::starts::{start, Among};
 
 /// A part of the way from one start.
 #[derive(Clone, Copy)]
@@ -32,53 +32,58 @@ const STRIPES: Leg = Leg {
     ..PIXELS
 };
 
-/// Which frames are searched.
-#[derive(Clone, Copy)]
-pub enum Among {
-    All,
-    /// Those that depend on x alone, but for their first column.
-    Stripes,
-}
-
-impl Among {
-    fn plan(self) -> (Start, [Leg; 2]) {
-        match self {
-            Among::All => (start, [COLUMNS, PIXELS]),
-            Among::Stripes => (striped, [COLUMNS, STRIPES]),
-        }
+fn legs(among: Among) -> [Leg; 2] {
+    match among {
+        Among::Stripes => [COLUMNS, STRIPES],
+        _ => [COLUMNS, PIXELS],
     }
 }
 
-/// The worst frame for a blur radius that so many strokes lead to, by the model: the library is still to be asked.
+/// A frame that was found, with its share by the model: the library is still to be asked.
+pub struct Frame {
+    pub share: f64,
+    pub shape: Shape,
+    pub pixels: Vec<u8>,
+}
+
+/// For a blur radius the worst frames that so many strokes lead to, one for each number of roundings, the worst of them first.
 pub fn search(
     among: Among,
     seed: u64,
     blur: usize,
     steps: u64,
     mut told: impl FnMut(u64, f64),
-) -> Option<(Shape, Vec<u8>)> {
-    let (start, legs) = among.plan();
+) -> Vec<Frame> {
     let random = &mut Random::new(seed, blur as u64);
-    let mut worst: Option<(f64, Shape, Vec<u8>)> = None;
-    let mut left = steps;
+    let mut worst: BTreeMap<usize, Frame> = BTreeMap::new();
+    let (mut left, mut most) = (steps, 0.0f64);
     while left > 0 {
-        let (shape, pixels) = start(random, blur);
+        let (shape, pixels) = start(random, among, blur);
         let canvas = &mut Canvas::new(shape, &pixels);
-        for leg in legs {
+        for leg in legs(among) {
             let strokes = leg.strokes.min(left);
             climb(canvas, random, Leg { strokes, ..leg });
             left -= strokes;
         }
-        let share = canvas.share();
-        if worst.as_ref().is_none_or(|(worst, _, _)| share > *worst) {
-            worst = Some((share, shape, canvas.pixels().to_vec()));
+        let (share, roundings) = (canvas.share(), shape.window().roundings());
+        most = most.max(share);
+        if worst
+            .get(&roundings)
+            .is_none_or(|frame| share > frame.share)
+        {
+            let pixels = canvas.pixels().to_vec();
+            let frame = Frame {
+                share,
+                shape,
+                pixels,
+            };
+            worst.insert(roundings, frame);
         }
-        told(
-            steps - left,
-            worst.as_ref().map_or(0.0, |(share, _, _)| *share),
-        );
+        told(steps - left, most);
     }
-    worst.map(|(_, shape, pixels)| (shape, pixels))
+    let mut worst: Vec<Frame> = worst.into_values().collect();
+    worst.sort_by(|a, b| b.share.total_cmp(&a.share));
+    worst
 }
 
 /// Leaves the worst picture that was come by.

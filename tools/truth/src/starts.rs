@@ -1,5 +1,6 @@
 //! Frames that the search begins with.
 
+use judge::pictures::{kind, picture};
 use judge::random::Random;
 
 use crate::canvas::Shape;
@@ -8,37 +9,54 @@ use crate::canvas::Shape;
 /// second whole number only and each small odd square that is added is cut by one.
 const CONTRAST: usize = 193;
 
-/// A shape and its first picture: mostly the stripes above, else stripes, crossed stripes or noise, with any rays and cut windows.
-pub fn start(random: &mut Random, blur: usize) -> (Shape, Vec<u8>) {
-    match random.below(8) {
-        0 => {
-            let shape = anywhere(random, blur);
-            let pixels = (0..shape.width * shape.height).map(|_| random.byte());
-            (shape, pixels.collect())
+/// Which frames are searched.
+#[derive(Clone, Copy)]
+pub enum Among {
+    All,
+    /// Those that depend on x alone, but for their first column; with the longest rays.
+    Stripes,
+    /// Those with rays of one radius.
+    Ray(usize),
+}
+
+/// A shape and its first picture.
+pub fn start(random: &mut Random, among: Among, blur: usize) -> (Shape, Vec<u8>) {
+    match among {
+        Among::Ray(ray) => any(random, ray, blur),
+        Among::All if random.percent(40) => {
+            let ray = random.range(1, limits::RAY as usize);
+            any(random, ray, blur)
         }
-        1 => {
-            let shape = anywhere(random, blur);
-            let (columns, rows) = (levels(random, shape.width), levels(random, shape.height));
-            let level = |x: usize, y: usize| (columns[x] / 2).saturating_add(rows[y] / 2);
-            (shape, drawn(shape, level))
-        }
-        2 => {
-            let shape = anywhere(random, blur);
-            let columns = levels(random, shape.width);
+        _ => {
+            let shape = least(limits::RAY as usize, blur);
+            let columns = stripes(random, shape);
             (shape, drawn(shape, |x, _| columns[x]))
         }
-        _ => striped(random, blur),
     }
 }
 
-/// The stripes alone.
-pub fn striped(random: &mut Random, blur: usize) -> (Shape, Vec<u8>) {
-    let shape = least(limits::RAY as usize, blur);
-    let columns = stripes(random, shape);
-    (shape, drawn(shape, |x, _| columns[x]))
+/// Noise, stripes, crossed stripes or what made frames show; windows that are cut among them.
+fn any(random: &mut Random, ray: usize, blur: usize) -> (Shape, Vec<u8>) {
+    let shape = match random.percent(50) {
+        true => least(ray, blur),
+        false => cut(random, ray, blur),
+    };
+    let (columns, rows) = (levels(random, shape.width), levels(random, shape.height));
+    // Faint noise has sums that f32 holds, and means that it does not.
+    let faint = random.pick(&[2, 4, 16, 256]);
+    let pixels = match random.below(4) {
+        0 => drawn(shape, |_, _| random.below(faint) as u8),
+        1 => drawn(shape, |x, _| columns[x]),
+        2 => drawn(shape, |x, y| columns[x] / 2 + rows[y] / 2),
+        _ => {
+            let kind = kind(random);
+            picture(random, kind, shape.width, shape.height)
+        }
+    };
+    (shape, pixels)
 }
 
-fn drawn(shape: Shape, level: impl Fn(usize, usize) -> u8) -> Vec<u8> {
+fn drawn(shape: Shape, mut level: impl FnMut(usize, usize) -> u8) -> Vec<u8> {
     let place = |at: usize| level(at % shape.width, at / shape.width);
     (0..shape.width * shape.height).map(place).collect()
 }
@@ -56,9 +74,8 @@ fn least(ray: usize, blur: usize) -> Shape {
     }
 }
 
-/// Any rays, any pixel, and sides that may be too short for a whole window.
-fn anywhere(random: &mut Random, blur: usize) -> Shape {
-    let ray = random.range(1, limits::RAY as usize);
+/// Any pixel, and sides that may be too short for a whole window.
+fn cut(random: &mut Random, ray: usize, blur: usize) -> Shape {
     let side = |random: &mut Random| 2 * ray + random.range(1, 2 * blur + 1);
     let (width, height) = (side(random), side(random));
     Shape {

@@ -4,7 +4,7 @@ use judge::random::Random;
 use judge::{document_frame, make};
 use steyrbunk::frame::Frame;
 use steyrbunk::{Finder, Image, Settings};
-use truth::{hold, look, mean, start, Canvas, Share, Summary, Tally, Whole, Window};
+use truth::{hold, look, mean, start, Among, Canvas, Share, Summary, Tally, Whole, Window};
 
 const BLURS: [u32; 4] = [0, 1, 2, 3];
 
@@ -181,7 +181,7 @@ fn the_canvas_has_the_librarys_value() {
     let (mut finder, random) = (Finder::new(), &mut Random::new(9, 0));
     let (mut rays, mut cut, mut standing) = ([0; 8], 0, 0);
     for number in 0..1_200 {
-        let (shape, pixels) = start(random, number % 4);
+        let (shape, pixels) = start(random, Among::All, number % 4);
         let canvas = &mut Canvas::new(shape, &pixels);
         for stroke in 0..30 {
             let before = canvas.pixels().to_vec();

@@ -1,0 +1,90 @@
+//! The worst frames that were found, in `worst/`: they still have the shares that are written here.
+
+use std::fs;
+use std::path::{Path, PathBuf};
+
+use frames::Named;
+use steyrbunk::Finder;
+use truth::{look, Pixel};
+
+/// A frame, its radii, and the pixel with the worst share of its map.
+struct Worst {
+    file: &'static str,
+    ray: u32,
+    blur: u32,
+    sizes: (usize, usize),
+    place: (usize, usize),
+    bits: u32,
+    count: usize,
+    sum: u64,
+    /// In lowest terms.
+    share: (u128, u128),
+}
+
+const WORST: [Worst; 0] = [];
+
+fn folder() -> PathBuf {
+    Path::new(env!("CARGO_MANIFEST_DIR")).join("worst")
+}
+
+fn pixel(worst: &Worst) -> Pixel {
+    Pixel {
+        x: worst.place.0,
+        y: worst.place.1,
+        value: f32::from_bits(worst.bits),
+        count: worst.count,
+        sum: worst.sum,
+    }
+}
+
+#[test]
+fn shares() {
+    let mut finder = Finder::new();
+    for worst in &WORST {
+        let path = folder().join(worst.file);
+        let file = fs::read(&path).unwrap();
+        let named = Named {
+            ray_radius: Some(worst.ray),
+            image_upsample: Some(1),
+            ..Named::default()
+        };
+        let frame = frames::open(&path, &file, &named, false).unwrap();
+        assert_eq!((frame.image.width, frame.image.height), worst.sizes);
+        let looked = look(&mut finder, frame.image, &frame.settings, &[worst.blur]).unwrap();
+        let (share, found) = looked[0].1.worst.unwrap();
+        assert_eq!(looked[0].1.broken, 0);
+        assert_eq!(found, pixel(worst), "{}", worst.file);
+        assert_eq!(share.fraction(), worst.share, "{}", worst.file);
+    }
+}
+
+/// Each file of the folder is in the list, and each of the blur radii that round.
+#[test]
+fn all_of_them() {
+    let files = fs::read_dir(folder()).unwrap();
+    let mut files: Vec<_> = files.map(|file| file.unwrap().file_name()).collect();
+    files.sort();
+    let mut listed = WORST.map(|worst| worst.file);
+    listed.sort();
+    assert_eq!(files, listed);
+    assert!((1..=3).all(|blur| WORST.iter().any(|worst| worst.blur == blur)));
+}
+
+/// At blur radius 3 more than half of what is allowed is used, so that the bound cannot be halved.
+#[test]
+fn more_than_half() {
+    let halves = WORST.iter().filter(|worst| worst.blur == 3);
+    let mut over = halves.map(|worst| 2 * worst.share.0 > worst.share.1);
+    assert!(over.all(|over| over));
+}
+
+/// The stripes depend on x alone but for their first column.
+#[test]
+fn stripes() {
+    let path = folder().join("blur3-ray7-stripes.pgm");
+    let file = fs::read(&path).unwrap();
+    let frame = frames::open(&path, &file, &Named::default(), false).unwrap();
+    let mut rows = frame.image.pixels.chunks(frame.image.width);
+    let first = rows.next().unwrap();
+    assert!(rows.all(|row| row[1..] == first[1..]));
+}
