@@ -143,7 +143,7 @@ impl Canvas {
         if sum == 0 {
             return 0.0;
         }
-        // Both products are below 2^53: the difference is exact.
+        // The product has 30 bits and lies near the sum, so that it and the difference are exact.
         let gap = f64::from(value) * self.window.count() as f64 - sum as f64;
         gap.abs() / sum as f64 * f64::from(1 << 20)
     }
@@ -171,15 +171,29 @@ impl Canvas {
         }
     }
 
-    /// A column, or a pixel of the first one: with the least frame such a pixel lies on one ray only.
+    /// A column, or a pixel of the first one beside the window: with the least frame and the longest rays it lies on one ray
+    /// only, that of its row's first response.
     pub fn stroke_stripe(&mut self, random: &mut Random) {
         if random.percent(50) {
             return self.stroke_column(random);
         }
         self.changed.clear();
         let by = small_step(random);
-        let y = random.below(self.shape.height);
+        let y = self.window.top + random.below(self.window.rows);
         self.raise(y * self.shape.width, by);
+    }
+
+    /// Makes the first column as even as can be had for nothing.
+    pub fn even_out(&mut self) {
+        let (share, level) = (self.share(), i32::from(self.pixels[0]));
+        for y in 0..self.shape.height {
+            self.changed.clear();
+            let at = y * self.shape.width;
+            self.raise(at, level - i32::from(self.pixels[at]));
+            if self.share() < share {
+                self.undo();
+            }
+        }
     }
 
     /// A pixel raised or lowered, often with a pixel beside it the other way, which leaves most sums as they are.

@@ -30,7 +30,8 @@ without a blur the map must be these numbers exactly. Maps are the library's, of
   --image-upsample U   for pictures, 1 or 2, default 2
   --steps N            strokes of the search for each blur radius: the same seed and number find the
                        same frame
-  --stripes            the search keeps to frames that depend on x alone, but for their first column
+  --stripes            the search keeps to frames that depend on x alone, but for the first column
+                       beside the window
   --keep FOLDER        the search writes the worst frame of each blur radius there, as a PGM picture
 
 The summary has for each blur radius the pixels, those with E above 0, and the worst share with its

@@ -65,6 +65,9 @@ pub fn search(
             climb(canvas, random, Leg { strokes, ..leg });
             left -= strokes;
         }
+        if let Among::Stripes = among {
+            canvas.even_out();
+        }
         let (share, roundings) = (canvas.share(), shape.window().roundings());
         most = most.max(share);
         if worst

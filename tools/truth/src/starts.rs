@@ -5,15 +5,15 @@ use judge::random::Random;
 
 use crate::canvas::Shape;
 
-/// Contrast of a stripe whose response, with the longest rays, is just above 2^23: two of them reach 2^24, from where on f32 has every
-/// second whole number only and each small odd square that is added is cut by one.
+/// Contrast of a stripe whose response, with the longest rays, is about 2^23: two of them reach 2^24, from where on f32 has every
+/// second whole number only, and of each small odd square that is added one is lost.
 const CONTRAST: usize = 193;
 
 /// Which frames are searched.
 #[derive(Clone, Copy)]
 pub enum Among {
     All,
-    /// Those that depend on x alone, but for their first column; with the longest rays.
+    /// Those that depend on x alone, but for the first column beside the window; with the longest rays.
     Stripes,
     /// Those with rays of one radius.
     Ray(usize),

@@ -21,7 +21,74 @@ struct Worst {
     share: (u128, u128),
 }
 
-const WORST: [Worst; 0] = [];
+const WORST: [Worst; 6] = [
+    Worst {
+        file: "blur1-ray7.pgm",
+        ray: 7,
+        blur: 1,
+        sizes: (17, 17),
+        place: (8, 8),
+        bits: 0x4aaa_aab6,
+        count: 9,
+        sum: 50_331_689,
+        share: (10_485_760, 50_331_689),
+    },
+    Worst {
+        file: "blur2-ray7.pgm",
+        ray: 7,
+        blur: 2,
+        sizes: (19, 19),
+        place: (9, 9),
+        bits: 0x4a4c_debb,
+        count: 25,
+        sum: 83_914_800,
+        share: (81_920, 209_787),
+    },
+    Worst {
+        file: "blur3-ray7.pgm",
+        ray: 7,
+        blur: 3,
+        sizes: (21, 21),
+        place: (10, 10),
+        bits: 0x4a12_55e8,
+        count: 49,
+        sum: 117_480_602,
+        share: (33_554_432, 58_740_301),
+    },
+    Worst {
+        file: "blur3-ray7-stripes.pgm",
+        ray: 7,
+        blur: 3,
+        sizes: (21, 21),
+        place: (10, 10),
+        bits: 0x4a12_9fa8,
+        count: 49,
+        sum: 117_711_882,
+        share: (33_554_432, 58_855_941),
+    },
+    Worst {
+        file: "blur3-ray7-short.pgm",
+        ray: 7,
+        blur: 3,
+        sizes: (21, 19),
+        place: (10, 8),
+        bits: 0x49d1_2557,
+        count: 49,
+        sum: 83_952_862,
+        share: (3_080_192, 5_996_633),
+    },
+    Worst {
+        file: "blur3-ray6-small.pgm",
+        ray: 6,
+        blur: 3,
+        sizes: (19, 19),
+        place: (9, 9),
+        bits: 0x4a14_0578,
+        count: 49,
+        sum: 118_833_975,
+        share: (19_922_944, 39_611_325),
+    },
+];
 
 fn folder() -> PathBuf {
     Path::new(env!("CARGO_MANIFEST_DIR")).join("worst")
