@@ -63,7 +63,7 @@ enum Task {
 fn task(mut words: Words) -> Result<(Task, Option<u32>), Usage> {
     let (mut seed, mut count, mut first, mut sizes) = (None, None, 0, Sizes::PROGRAM);
     let (mut searched, mut steps, mut keep, mut blur) = (false, None, None, None);
-    let mut among = Among::All;
+    let mut stripes = false;
     let (mut named, mut paths) = (Named::default(), Vec::new());
     while let Some(word) = words.word()? {
         let flag = match word {
@@ -79,7 +79,7 @@ fn task(mut words: Words) -> Result<(Task, Option<u32>), Usage> {
             "--first" => first = words.value(&flag, "a number")?,
             "--max-side" => sizes = Sizes::up_to(words.value(&flag, "a number of pixels")?),
             "--search" => searched = true,
-            "--stripes" => among = Among::Stripes,
+            "--stripes" => stripes = true,
             "--steps" => steps = Some(words.value(&flag, "a number")?),
             "--keep" => keep = Some(words.path(&flag, "a folder")?),
             "--blur-radius" => match words.value(&flag, "a number")? {
@@ -90,6 +90,9 @@ fn task(mut words: Words) -> Result<(Task, Option<u32>), Usage> {
             _ => return Usage::wrong(format!("{flag} is not known")),
         }
     }
+    if !searched && (stripes || keep.is_some()) {
+        return Usage::wrong("--stripes and --keep are for --search");
+    }
     let task = match (seed, count, steps, paths.is_empty()) {
         (Some(seed), Some(count), None, true) if !searched => Task::Made {
             seed,
@@ -98,7 +101,7 @@ fn task(mut words: Words) -> Result<(Task, Option<u32>), Usage> {
             sizes,
         },
         (Some(seed), None, Some(steps), true) if searched => Task::Search {
-            among: rays(among, &named)?,
+            among: among(stripes, &named)?,
             seed,
             steps,
             keep,
@@ -113,12 +116,13 @@ fn task(mut words: Words) -> Result<(Task, Option<u32>), Usage> {
     Ok((task, blur))
 }
 
-/// A search for one ray radius, if the call names it.
-fn rays(among: Among, named: &Named) -> Result<Among, Usage> {
-    match (among, named.ray_radius) {
-        (among, None) => Ok(among),
-        (Among::All, Some(ray @ 1..=limits::RAY)) => Ok(Among::Ray(ray as usize)),
-        _ => Usage::wrong("a search wants --stripes or a --ray-radius from 1 to 7"),
+/// The frames of a search.
+fn among(stripes: bool, named: &Named) -> Result<Among, Usage> {
+    match (stripes, named.ray_radius) {
+        (false, None) => Ok(Among::All),
+        (true, None) => Ok(Among::Stripes),
+        (false, Some(ray @ 1..=limits::RAY)) => Ok(Among::Ray(ray as usize)),
+        _ => Usage::wrong("a search takes --stripes, or a --ray-radius from 1 to 7"),
     }
 }
 
@@ -126,10 +130,9 @@ fn rays(among: Among, named: &Named) -> Result<Among, Usage> {
 fn tell(summary: &mut Summary, progress: &mut Progress, name: &str, looked: &[Looked]) {
     summary.add(name, looked);
     for (blur, tally) in looked {
-        if let Some(pixel) = &tally.first_broken {
+        if let Some(complaint) = tally.complaint() {
             progress.clear();
-            let broken = tally.broken;
-            eprintln!("{name}: blur {blur}: {broken} PAST THE BOUND, the first at {pixel}");
+            eprintln!("{name}: blur {blur}: {complaint}");
         }
     }
 }

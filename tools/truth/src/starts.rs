@@ -22,6 +22,7 @@ pub enum Among {
 /// A shape and its first picture.
 pub fn start(random: &mut Random, among: Among, blur: usize) -> (Shape, Vec<u8>) {
     match among {
+        Among::Ray(6) if random.percent(50) => bars(random, blur),
         Among::Ray(ray) => any(random, ray, blur),
         Among::All if random.percent(40) => {
             let ray = random.range(1, limits::RAY as usize);
@@ -33,6 +34,25 @@ pub fn start(random: &mut Random, among: Among, blur: usize) -> (Shape, Vec<u8>)
             (shape, drawn(shape, |x, _| columns[x]))
         }
     }
+}
+
+/// Three bright columns, for rays of 6, which two do not bring to 2^24. The window's other columns are black within it and grey above and
+/// below, so that their upright rays have what the bright columns bring to the others.
+fn bars(random: &mut Random, blur: usize) -> (Shape, Vec<u8>) {
+    const COUNT: usize = 3;
+    let shape = least(6, blur);
+    let window = shape.window();
+    let bright = random.range(236, 239);
+    let grey = COUNT * bright / (2 * shape.ray + 1 - window.rows);
+    let level = |x: usize, y: usize| {
+        let is_beside = (window.top..window.top + window.rows).contains(&y);
+        match x.checked_sub(window.left) {
+            Some(place) if place < COUNT => bright,
+            Some(place) if place < window.columns && !is_beside => grey,
+            _ => 0,
+        }
+    };
+    (shape, drawn(shape, |x, y| level(x, y) as u8))
 }
 
 /// Noise, stripes, crossed stripes or what made frames show; windows that are cut among them.

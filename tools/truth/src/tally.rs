@@ -44,6 +44,12 @@ pub struct Tally {
 }
 
 impl Tally {
+    /// What is told of a map with pixels past the bound.
+    pub fn complaint(&self) -> Option<String> {
+        let (broken, pixel) = (self.broken, self.first_broken?);
+        Some(format!("{broken} PAST THE BOUND, the first at {pixel}"))
+    }
+
     fn add(&mut self, pixel: Pixel, share: Option<Share>, roundings: usize) {
         self.pixels += 1;
         self.standing += u64::from(pixel.sum > 0);

@@ -169,6 +169,27 @@ fn words_and_nothing() {
         &["--blur-radius", "4", "1.frame"],
         &["--threshold-rel", "0", "1.frame"],
         &["--steps", "5", "1.frame"],
+        &["--stripes", "1.frame"],
+        &["--keep", "a", "--seed", "1", "--count", "5"],
+        &[
+            "--search",
+            "--seed",
+            "1",
+            "--steps",
+            "5",
+            "--ray-radius",
+            "8",
+        ],
+        &[
+            "--search",
+            "--seed",
+            "1",
+            "--steps",
+            "5",
+            "--ray-radius",
+            "7",
+            "--stripes",
+        ],
         &[],
     ] {
         assert_eq!(run(&folder, words), (String::new(), 2), "{words:?}");

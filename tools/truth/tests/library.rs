@@ -71,6 +71,13 @@ fn a_moved_value_is_told() {
             (1, 49, 3, 3)
         );
         assert_eq!((pixel.count, pixel.sum), (49, 440_000));
+        let bits = pixel.value.to_bits();
+        let told =
+            format!("1 PAST THE BOUND, the first at pixel (3, 3), v {bits:#010x}, N 49, E 440000");
+        assert_eq!(
+            (moved(7).complaint(), tally.complaint()),
+            (None, Some(told))
+        );
         let mut summary = Summary::default();
         summary.add("moved", &[(3, moved(7))]);
         assert!(summary.holds());

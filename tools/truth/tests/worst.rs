@@ -78,15 +78,15 @@ const WORST: [Worst; 6] = [
         share: (3_080_192, 5_996_633),
     },
     Worst {
-        file: "blur3-ray6-small.pgm",
+        file: "blur3-ray6.pgm",
         ray: 6,
         blur: 3,
         sizes: (19, 19),
         place: (9, 9),
-        bits: 0x4a14_0578,
+        bits: 0x4a13_c558,
         count: 49,
-        sum: 118_833_975,
-        share: (19_922_944, 39_611_325),
+        sum: 118_632_879,
+        share: (19_922_944, 39_544_293),
     },
 ];
 
@@ -145,13 +145,20 @@ fn more_than_half() {
     assert!(over.all(|over| over));
 }
 
-/// The stripes depend on x alone but for their first column.
+/// The stripes depend on x alone but for a few pixels of the first column.
 #[test]
 fn stripes() {
-    let path = folder().join("blur3-ray7-stripes.pgm");
-    let file = fs::read(&path).unwrap();
-    let frame = frames::open(&path, &file, &Named::default(), false).unwrap();
-    let mut rows = frame.image.pixels.chunks(frame.image.width);
-    let first = rows.next().unwrap();
-    assert!(rows.all(|row| row[1..] == first[1..]));
+    let others = |file: &str| {
+        let path = folder().join(file);
+        let file = fs::read(&path).unwrap();
+        let frame = frames::open(&path, &file, &Named::default(), false).unwrap();
+        let rows: Vec<&[u8]> = frame.image.pixels.chunks(frame.image.width).collect();
+        assert!(rows.iter().all(|row| row[1..] == rows[0][1..]));
+        let other = |(y, row): (usize, &&[u8])| (row[0] != rows[0][0]).then_some((y, row[0]));
+        let others: Vec<(usize, u8)> = rows.iter().enumerate().filter_map(other).collect();
+        others
+    };
+    let few = [(9, 253), (10, 245), (11, 245), (12, 245)];
+    assert_eq!(others("blur3-ray7-stripes.pgm"), few);
+    assert_eq!(others("blur3-ray7-short.pgm"), [(8, 5), (9, 7)]);
 }
