@@ -25,8 +25,8 @@ fn the_documents_value() {
 fn steps_past_the_bound() {
     let share = |steps| Share::of(moved(DOCUMENT, steps), 49, 440_000);
     let over = |steps| share(steps).map(|share| share.fraction());
-    assert_eq!(over(7), Some((390 << 10, 440_000)).map(lowest));
-    assert_eq!(over(-9), Some((394 << 10, 440_000)).map(lowest));
+    assert_eq!(over(7), Some(lowest((390 << 10, 440_000))));
+    assert_eq!(over(-9), Some(lowest((394 << 10, 440_000))));
     assert_eq!((over(8), over(-10)), (None, None));
     // Shares are ordered as fractions are, whatever their denominators.
     assert!(share(0) < share(-2) && share(-2) < share(7) && share(7) < share(-9));
@@ -58,7 +58,7 @@ fn nothing_and_all() {
     // All of what is allowed, and an eighth more.
     let whole = Share::of(1_048_577.0, 1, 1 << 20).unwrap();
     assert_eq!(whole.fraction(), (1, 1));
-    assert_eq!(Share::of(1_048_577.125, 1, 1 << 20), None);
+    assert_eq!(Share::of(1_048_577.0 + 0.125, 1, 1 << 20), None);
     assert_eq!(Share::of(1_048_575.0, 1, 1 << 20), Some(whole));
     // No sum is negative, endless or no number.
     for value in [-3.0, f32::INFINITY, f32::NEG_INFINITY, f32::NAN, -f32::NAN] {

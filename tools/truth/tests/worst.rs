@@ -21,7 +21,7 @@ struct Worst {
     share: (u128, u128),
 }
 
-const WORST: [Worst; 6] = [
+const WORST: [Worst; 7] = [
     Worst {
         file: "blur1-ray7.pgm",
         ray: 7,
@@ -65,6 +65,17 @@ const WORST: [Worst; 6] = [
         count: 49,
         sum: 117_711_882,
         share: (33_554_432, 58_855_941),
+    },
+    Worst {
+        file: "blur3-ray7-one-pixel.pgm",
+        ray: 7,
+        blur: 3,
+        sizes: (21, 21),
+        place: (10, 10),
+        bits: 0x4a12_5598,
+        count: 49,
+        sum: 117_479_618,
+        share: (31_457_280, 58_739_809),
     },
     Worst {
         file: "blur3-ray7-short.pgm",
@@ -160,5 +171,6 @@ fn stripes() {
     };
     let few = [(9, 253), (10, 245), (11, 245), (12, 245)];
     assert_eq!(others("blur3-ray7-stripes.pgm"), few);
+    assert_eq!(others("blur3-ray7-one-pixel.pgm"), [(9, 0)]);
     assert_eq!(others("blur3-ray7-short.pgm"), [(8, 5), (9, 7)]);
 }
