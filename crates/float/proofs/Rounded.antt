@@ -110,7 +110,8 @@ close-upto k n b C h =
     let e : k + (n - k) ≡ n = omega arith in
     rw e at (close-more k (n - k) C h)
 
-close-product : (k j : ℕ) {p q a c p′ q′ b d : ℕ} → Close k p q a c → Close j p′ q′ b d → Close (k + j) (p * p′) (q * q′) (a * b) (c * d)
+close-product : (k j : ℕ) {p q a c p′ q′ b d : ℕ} → Close k p q a c → Close j p′ q′ b d
+    → Close (k + j) (p * p′) (q * q′) (a * b) (c * d)
 close-product k j h g = rw (pow-add over k j, pow-add unit k j, pow-add under k j) (between-product h g)
 
 -- as many as the laws below allow
@@ -157,7 +158,8 @@ module _ (k p q a c : ℕ) (b : k ≤ limit) (r : Room p q) (C : 0 < c) (h : Clo
   round-some : 0 < p → Rounded (suc k) p q (round binary32 false a c)
   round-some P =
       let g = grid binary32 a c in
-      let normal : 2 ^ 23 * c ≤ a * 2 ^ 149 = le-trans (omega (arith, is-above modest r far P)) (mul-le-mul-left {m = 2 ^ 34} {n = 2 ^ 149} a (lit≤ tt)) in
+      let large : 2 ^ 23 * c ≤ a * 2 ^ 34 = omega (arith, is-above modest r far P) in
+      let normal : 2 ^ 23 * c ≤ a * 2 ^ 149 = le-trans large (mul-le-mul-left a (lit≤ tt)) in
       let o = grid-once a c C normal in
       let finite = lt-of-le-of-lt (fits-under g c a (2 ^ 149) (2 ^ 41) C (o .most) (is-below modest r far)) (lit< tt) in
       rounded-value (suc k) p q g (2 ^ 149) (round binary32 false a c) (lit< tt) (round-val binary32 a c finite) (close-once k C o h)
@@ -207,5 +209,7 @@ reciprocal-rounded n y N b v =
 pub first-rounded : {k p q : ℕ} {x : Float} → T (fits binary32 x) → Rounded k p q x → Rounded k p q (add binary32 f0 x)
 unfolding add sum ofBits
 first-rounded {k} {p} {q} t (rounded {m = m} {e = e} h) =
-    rw (round-same binary32 false (0 * 1 * down e + m * up e * 1) (1 * down e) (m * up e) (down e) (mul-pos (lit< tt) (down-pos e)) (down-pos e) (omega arith))
+    let n = 0 * 1 * down e + m * up e * 1 in
+    let C : 0 < 1 * down e = mul-pos (lit< tt) (down-pos e) in
+    rw (round-same binary32 false n (1 * down e) (m * up e) (down e) C (down-pos e) (omega arith))
     (rounded-value k p q (m * up e) (down e) _ (down-pos e) (stays m e t) h)

@@ -10,7 +10,8 @@ use lib.Ieee.{Float, binary32, fits, mul, div, ofInt}
 use lib.Ieee.Fits.{div-fits}
 use lib.ListN.{length}
 use Rattle.float.specs.Values.{f1}
-use Rattle.float.proofs.Rounded.{Room, less-room, limit, Rounded, rounded-upto, add-rounded, mul-rounded, div-rounded, reciprocal-rounded, first-rounded}
+use Rattle.float.proofs.Rounded.{Room, less-room, limit, Rounded, rounded-upto, add-rounded, mul-rounded, div-rounded}
+use Rattle.float.proofs.Rounded.{reciprocal-rounded, first-rounded}
 use Rattle.grid.specs.Fold.{fold, fsum, sumTo}
 use Rattle.grid.proofs.Fold.{sum-one, sum-most}
 use Rattle.means.specs.Means.{counted, windowSum, meanAt, columnMean}
@@ -19,40 +20,52 @@ use Rattle.blur.proofs.BlurRange.{count-value, window-few, window-some}
 use Rattle.truth.specs.Truth.{window, total}
 use Rattle.truth.proofs.Windows.{window-total, window-pixels}
 
--- ---- values, each P i / q but for k roundings
+-- ---- c values, each P i / q but for k roundings, c of a window's side
 
-module _ (f : ℕ → Float) (P : ℕ → ℕ) (k q : ℕ) (some : 0 < q) (first : T (fits binary32 (f 0))) where
+record Terms (f : ℕ → Float) (P : ℕ → ℕ) (k q c : ℕ) : Type 0 where
+  roundings : k + c ≤ limit
+  some : 0 < c
+  seven : c ≤ 7
+  whole : 0 < q
+  room : Room (sumTo P c) (q * c)
+  first : T (fits binary32 (f 0))
+  is : (i : ℕ) → i < c → Rounded k (P i) q (f i)
+
+own-room : (n q m : ℕ) → 0 < q → Room n (q * suc m) → Room n q
+own-room n q m s r = record { some = s; few = omega (arith, r .few, mul-le-mul-left {m = 1} {n = suc m} q (omega arith)); most = r .most }
+
+module _ (f : ℕ → Float) (P : ℕ → ℕ) (k q : ℕ) where
   -- a sum from zero: a rounding for each term but the first
-  sum-rounded : (m : ℕ) → k + m ≤ limit → Room (sumTo P (suc m)) q → ((i : ℕ) → i < suc m → Rounded k (P i) q (f i))
+  sum-rounded : (m : ℕ) → k + m ≤ limit → Room (sumTo P (suc m)) q → T (fits binary32 (f 0)) → ((i : ℕ) → i < suc m → Rounded k (P i) q (f i))
       → Rounded (k + m) (sumTo P (suc m)) q (fsum f (suc m))
   unfolding fold
-  sum-rounded zero b r h = rw (add-zero, zero-add) (first-rounded first (h 0 (omega arith)))
-  sum-rounded (suc m) b r h =
-      let before = sum-rounded m (omega arith) (less-room (sumTo P (suc m)) (omega arith) r) (λ i l. h i (omega arith)) in
-      rw add-suc (add-rounded (k + m) (sumTo P (suc m)) (P (suc m)) q (omega arith) r before (rounded-upto (k + m) (omega arith) (h (suc m) (omega arith))))
+  sum-rounded zero b r t h = rw (add-zero, zero-add) (first-rounded t (h 0 (omega arith)))
+  sum-rounded (suc m) b r t h =
+      let before = sum-rounded m (omega arith) (less-room (sumTo P (suc m)) (omega arith) r) t (λ i l. h i (omega arith)) in
+      let next = rounded-upto (k + m) (omega arith) (h (suc m) (omega arith)) in
+      rw add-suc (add-rounded (k + m) (sumTo P (suc m)) (P (suc m)) q (omega arith) r before next)
 
-  own-room : (n m : ℕ) → Room n (q * suc m) → Room n q
-  own-room n m r = record { some = some; few = omega (arith, r .few, mul-le-mul-left {m = 1} {n = suc m} q (omega arith)); most = r .most }
+  all-rounded : (m : ℕ) → Terms f P k q (suc m) → Rounded (k + m) (sumTo P (suc m)) q (fsum f (suc m))
+  all-rounded m t = sum-rounded m (omega (arith, t .roundings)) (own-room (sumTo P (suc m)) q m (t .whole) (t .room)) (t .first) (t .is)
 
   -- divided by their count: one more
-  mean-rounded : (c : ℕ) → k + c ≤ limit → 0 < c → c ≤ 7 → Room (sumTo P c) (q * c) → ((i : ℕ) → i < c → Rounded k (P i) q (f i))
-      → Rounded (k + c) (sumTo P c) (q * c) (div binary32 (fsum f c) (ofInt binary32 (pos c)))
-  mean-rounded zero b C s r h = absurd (omega arith)
-  mean-rounded (suc m) b C s r h =
-      let total = sum-rounded m (omega arith) (own-room (sumTo P (suc m)) m r) h in
-      rw add-suc (div-rounded (k + m) (sumTo P (suc m)) q (suc m) (ofInt binary32 (pos (suc m))) (omega arith) C r total (count-value (suc m) s))
+  mean-rounded : (c : ℕ) → Terms f P k q c → Rounded (k + c) (sumTo P c) (q * c) (div binary32 (fsum f c) (ofInt binary32 (pos c)))
+  mean-rounded zero t = absurd (omega (arith, t .some))
+  mean-rounded (suc m) t =
+      let count = count-value (suc m) (t .seven) in
+      rw add-suc (div-rounded (k + m) (sumTo P (suc m)) q (suc m) _ (omega (arith, t .roundings)) (t .some) (t .room) (all-rounded m t) count)
 
   -- multiplied by the rounded reciprocal of their count: two more
-  scaled-rounded : (c : ℕ) → k + c ≤ limit → 0 < c → c ≤ 7 → Room (sumTo P c) (q * c) → ((i : ℕ) → i < c → Rounded k (P i) q (f i))
+  scaled-rounded : (c : ℕ) → Terms f P k q c
       → Rounded (k + c + 1) (sumTo P c) (q * c) (mul binary32 (fsum f c) (div binary32 f1 (ofInt binary32 (pos c))))
-  scaled-rounded zero b C s r h = absurd (omega arith)
-  scaled-rounded (suc m) b C s r h =
+  scaled-rounded zero t = absurd (omega (arith, t .some))
+  scaled-rounded (suc m) t =
       let S = sumTo P (suc m) in
-      let total = sum-rounded m (omega arith) (own-room S m r) h in
-      let part = reciprocal-rounded (suc m) (ofInt binary32 (pos (suc m))) C (omega arith) (count-value (suc m) s) in
+      let count = count-value (suc m) (t .seven) in
+      let part = reciprocal-rounded (suc m) (ofInt binary32 (pos (suc m))) (t .some) (omega (arith, t .seven)) count in
       let e : k + suc m + 1 ≡ suc (k + m + 1) = omega arith in
       let one : S * 1 ≡ S = mul-one S in
-      rw e (rw one at (mul-rounded (k + m) 1 S q 1 (suc m) (omega arith) (rw one r) total part))
+      rw e (rw one at (mul-rounded (k + m) 1 S q 1 (suc m) (omega (arith, t .roundings)) (rw one (t .room)) (all-rounded m t) part))
 
 -- ---- the two passes
 
@@ -62,38 +75,65 @@ at-most k c d m n = omega arith
 -- a map g that is G but for k roundings
 module _ (k : ℕ) (K : k ≤ 16) (g : ℕ → ℕ → Float) (G : ℕ → ℕ → ℕ) (w h : ℕ) (below : (i j : ℕ) → G i j ≤ 2 ^ 32)
     (fit : (i j : ℕ) → T (fits binary32 (g i j))) (is : (i j : ℕ) → Rounded k (G i j) 1 (g i j)) where
+  -- the window's total along row y
   along : ℕ → ℕ → ℕ → ℕ
   along r x y = sumTo (λ i. G (x - r + i) y) (counted w r x)
 
   along-most : (r x y : ℕ) → r ≤ 3 → along r x y ≤ 2 ^ 35
   unfolding along
-  along-most r x y b = omega (arith, sum-most (λ i. G (x - r + i) y) (2 ^ 32) (counted w r x) (λ i. below (x - r + i) y), window-few w r x b)
+  along-most r x y b =
+      omega (arith, window-few w r x b, sum-most (λ i. G (x - r + i) y) (2 ^ 32) (counted w r x) (λ i. below (x - r + i) y))
+
+  row-terms : (r x y : ℕ) → r ≤ 3 → x < w → Terms (λ i. g (x - r + i) y) (λ i. G (x - r + i) y) k 1 (counted w r x)
+  unfolding along
+  row-terms r x y b a =
+      let n = window-few w r x b in
+      let s = window-some w r x a in
+      record {
+        roundings = omega arith;
+        some = s;
+        seven = n;
+        whole = lit< tt;
+        room = record { some = omega arith; few = omega arith; most = le-trans (along-most r x y b) (lit≤ tt) };
+        first = fit (x - r + 0) y;
+        is = λ i _. is (x - r + i) y;
+      }
 
   row-rounded : (r x y : ℕ) → r ≤ 3 → x < w → Rounded (k + counted w r x) (along r x y) (counted w r x) (rowMean g w r x y)
   unfolding rowMean meanAt windowSum along
-  row-rounded r x y b a =
-      let c = counted w r x in
-      let n = window-few w r x b in
-      let room : Room (along r x y) (1 * c) = record { some = omega (arith, window-some w r x a); few = omega arith; most = le-trans (along-most r x y b) (lit≤ tt) } in
-      rw one-mul at
-      (mean-rounded (λ i. g (x - r + i) y) (λ i. G (x - r + i) y) k 1 (lit< tt) (fit (x - r + 0) y) c (omega arith) (window-some w r x a) n room
-      (λ i _. is (x - r + i) y))
+  row-rounded r x y b a = rw one-mul at (mean-rounded (λ i. g (x - r + i) y) (λ i. G (x - r + i) y) k 1 (counted w r x) (row-terms r x y b a))
 
-  total-most : (r x y : ℕ) → r ≤ 3 → sumTo (λ j. along r x (y - r + j)) (counted h r y) ≤ 2 ^ 40
-  total-most r x y b = omega (arith, sum-most (λ j. along r x (y - r + j)) (2 ^ 35) (counted h r y) (λ j. along-most r x (y - r + j) b), window-few h r y b)
+  -- the window's total
+  both : ℕ → ℕ → ℕ → ℕ
+  both r x y = sumTo (λ j. along r x (y - r + j)) (counted h r y)
 
-  column-rounded : (r x y : ℕ) → r ≤ 3 → x < w → y < h
-      → Rounded (k + counted w r x + counted h r y + 1) (sumTo (λ j. along r x (y - r + j)) (counted h r y)) (counted w r x * counted h r y)
-      (columnMean (rowMean g w r) h r x y)
-  unfolding columnMean windowSum rowMean meanAt
-  column-rounded r x y b a c =
+  both-most : (r x y : ℕ) → r ≤ 3 → both r x y ≤ 2 ^ 40
+  unfolding both
+  both-most r x y b =
+      omega (arith, window-few h r y b, sum-most (λ j. along r x (y - r + j)) (2 ^ 35) (counted h r y) (λ j. along-most r x (y - r + j) b))
+
+  column-terms : (r x y : ℕ) → r ≤ 3 → x < w → y < h
+      → Terms (λ j. rowMean g w r x (y - r + j)) (λ j. along r x (y - r + j)) (k + counted w r x) (counted w r x) (counted h r y)
+  unfolding both rowMean meanAt
+  column-terms r x y b a c =
       let n = window-few w r x b in
       let m = window-few h r y b in
       let s = window-some w r x a in
       let t = window-some h r y c in
-      let room : Room _ (counted w r x * counted h r y) = record { some = mul-pos s t; few = le-trans (mul-le-mul n m) (lit≤ tt); most = total-most r x y b } in
-      scaled-rounded (λ j. rowMean g w r x (y - r + j)) (λ j. along r x (y - r + j)) (k + counted w r x) (counted w r x) s (div-fits binary32 _ _)
-      (counted h r y) (omega arith) t m room (λ j _. row-rounded r x (y - r + j) b a)
+      record {
+        roundings = omega arith;
+        some = t;
+        seven = m;
+        whole = s;
+        room = record { some = mul-pos s t; few = le-trans (mul-le-mul n m) (lit≤ tt); most = both-most r x y b };
+        first = div-fits binary32 _ _;
+        is = λ j _. row-rounded r x (y - r + j) b a;
+      }
+
+  column-rounded : (r x y : ℕ) → r ≤ 3 → x < w → y < h
+      → Rounded (k + counted w r x + counted h r y + 1) (both r x y) (counted w r x * counted h r y) (columnMean (rowMean g w r) h r x y)
+  unfolding columnMean windowSum both
+  column-rounded r x y b a c = scaled-rounded _ _ (k + counted w r x) (counted w r x) (counted h r y) (column-terms r x y b a c)
 
   -- radius 0: the window is the pixel
   alone : (n x : ℕ) → x < n → counted n 0 x ≡ 1
@@ -107,7 +147,7 @@ module _ (k : ℕ) (K : k ≤ 16) (g : ℕ → ℕ → Float) (G : ℕ → ℕ �
 
   pub blur-rounded : (r x y : ℕ) → r ≤ 3 → x < w → y < h
       → Rounded (k + 15) (total G (window w h r x y)) (length (window w h r x y)) (blurAt g w h r x y)
-  unfolding blurAt along
+  unfolding blurAt along both
   blur-rounded zero x y b a c =
       rw (total-alone x y a c, window-pixels w h 0 x y, alone w x a, alone h y c) (rounded-upto (k + 15) (omega arith) (is x y))
   blur-rounded (suc r) x y b a c =

@@ -64,13 +64,13 @@ module _ (factor ray : ℕ) (f : ℕ → ℕ → ℕ) (w h : ℕ) (most : (x y :
 
 module _ (f : ℕ → ℕ → ℕ) (w h : ℕ) (p : RadonDetectorParams) (image : ℕ) (b : Buffers) (most : (x y : ℕ) → f x y ≤ 255)
     (ran : Runs (factorOf (p .«image_upsample»)) (rayOf (p .«ray_radius»)) (p .«response_blur_radius») w h image b) where
-  pub whole-left : (x y : ℕ) → wholeIn (mapped f w h p b) w h p x y ≡ wholeAt (workOf f w h p) (sideOf w p) (sideOf h p) (rayOf (p .«ray_radius»)) x y
+  pub whole-left : (x y : ℕ)
+      → wholeIn (mapped f w h p b) w h p x y ≡ wholeAt (workOf f w h p) (sideOf w p) (sideOf h p) (rayOf (p .«ray_radius»)) x y
   whole-left x y = whole-ext _ _ _ _ _ x y (work-at f w h p b (ran .working-room) (ran .response-room))
 
   pub mapped-true : ResponseTrue (mapped f w h p b) w h p
   mapped-true x y u v =
-      rw (
-        map-at f w h p b (ran .working-room) (ran .response-room) x y u v,
-        window-ext (sideOf w p) (sideOf h p) (p .«response_blur_radius») x y (wholeIn (mapped f w h p b) w h p) _ (λ i j _ _. whole-left i j),
-      )
-      (map-true (factorOf (p .«image_upsample»)) (rayOf (p .«ray_radius»)) f w h most (ran .ray-most) (p .«response_blur_radius») x y (ran .blur-most) u v)
+      let blur = p .«response_blur_radius» in
+      let same = window-ext (sideOf w p) (sideOf h p) blur x y (wholeIn (mapped f w h p b) w h p) _ (λ i j _ _. whole-left i j) in
+      rw (map-at f w h p b (ran .working-room) (ran .response-room) x y u v, same)
+      (map-true (factorOf (p .«image_upsample»)) (rayOf (p .«ray_radius»)) f w h most (ran .ray-most) blur x y (ran .blur-most) u v)

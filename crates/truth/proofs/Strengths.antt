@@ -16,11 +16,13 @@ use Rattle.truth.specs.Truth.{wholeAt}
 
 module _ (f : ℕ → ℕ → ℕ) (w h r : ℕ) where
   -- by the image's own pixels
-  pub whole-ext : (g : ℕ → ℕ → ℕ) (x y : ℕ) → ((i j : ℕ) → i < w → j < h → f i j ≡ g i j) → wholeAt f w h r x y ≡ wholeAt g w h r x y
+  pub whole-ext : (g : ℕ → ℕ → ℕ) (x y : ℕ) → ((i j : ℕ) → i < w → j < h → f i j ≡ g i j)
+      → wholeAt f w h r x y ≡ wholeAt g w h r x y
   unfolding wholeAt
   whole-ext g x y e = at (within w h r x y) (inside-of w h r x y)
     where
-      at : (b : Bool) → (T b → Inside w h r x y) → cond b (raySpread f r x y * raySpread f r x y) 0 ≡ cond b (raySpread g r x y * raySpread g r x y) 0
+      at : (b : Bool) → (T b → Inside w h r x y)
+          → cond b (raySpread f r x y * raySpread f r x y) 0 ≡ cond b (raySpread g r x y * raySpread g r x y) 0
       at true m = ap (λ (s : ℕ). s * s) (spread-ext f g w h r x y (m tt) e)
       at false m = refl
 

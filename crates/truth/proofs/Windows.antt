@@ -39,7 +39,8 @@ total-line : (g : ℕ → ℕ → ℕ) (ax ex y : ℕ) → total g (line ax ex y
 unfolding line range total
 total-line g ax ex y = total-each g (λ x. place x y ∷ []) ax (ex - ax) ∙ fold-ext _+_ 0 _ _ (ex - ax) (λ k _. add-zero (g (ax + k) y))
 
-total-rect : (g : ℕ → ℕ → ℕ) (ax ex ay ey : ℕ) → total g (rect ax ex ay ey) ≡ sumTo (λ j. sumTo (λ i. g (ax + i) (ay + j)) (ex - ax)) (ey - ay)
+total-rect : (g : ℕ → ℕ → ℕ) (ax ex ay ey : ℕ)
+    → total g (rect ax ex ay ey) ≡ sumTo (λ j. sumTo (λ i. g (ax + i) (ay + j)) (ex - ax)) (ey - ay)
 unfolding rect range
 total-rect g ax ex ay ey =
     total-each g (λ y. line ax ex y) ay (ey - ay) ∙ fold-ext _+_ 0 _ _ (ey - ay) (λ j _. total-line g ax ex (ay + j))
@@ -55,7 +56,8 @@ module _ (w h r x y : ℕ) where
   window-pixels = length-rect (x - r) (min (x + r + 1) w) (y - r) (min (y + r + 1) h)
 
   -- of the map's own pixels alone
-  pub window-ext : (f g : ℕ → ℕ → ℕ) → ((i j : ℕ) → i < w → j < h → f i j ≡ g i j) → total f (window w h r x y) ≡ total g (window w h r x y)
+  pub window-ext : (f g : ℕ → ℕ → ℕ) → ((i j : ℕ) → i < w → j < h → f i j ≡ g i j)
+      → total f (window w h r x y) ≡ total g (window w h r x y)
   window-ext f g e =
       window-total f
       ∙ fold-ext _+_ 0 _ _ (counted h r y) (λ j b. fold-ext _+_ 0 _ _ (counted w r x) (λ i a. e _ _ (place-in w r x i a) (place-in h r y j b)))

@@ -36,7 +36,7 @@ without a blur the map must be these numbers exactly. Maps are the library's, of
 
 The summary has for each blur radius the pixels, those with E above 0, and the worst share with its
 frame, pixel, the bits of v, N and E; and the worst by the number of roundings on the way to a pixel,
-of which windows that are cut have fewer. What a search tells is the library's, of the worst frames
+of which windows that are cut have fewer, with the mean of those with E above 0. What a search tells is the library's, of the worst frames
 that were found for each number of roundings.
 
 The status is 0 if all pixels are within the bound, 1 if one is not, which is told on standard error,

@@ -14,6 +14,7 @@ pub struct Radius {
     pub broken: u64,
     /// The worst share, with the frame and the pixel.
     pub worst: Option<(Share, String, Pixel)>,
+    shares: f64,
     by_roundings: [Option<Share>; ROUNDINGS],
 }
 
@@ -35,6 +36,7 @@ impl Summary {
             radius.pixels += tally.pixels;
             radius.standing += tally.standing;
             radius.broken += tally.broken;
+            radius.shares += tally.shares;
             let is_worse = |share: Share| {
                 let worst = radius.worst.as_ref();
                 worst.is_none_or(|(worst, _, _)| share > *worst)
@@ -60,6 +62,11 @@ impl Summary {
 }
 
 impl Radius {
+    /// The mean share of the pixels that stand for more than 0.
+    fn mean(&self) -> f64 {
+        self.shares / self.standing as f64
+    }
+
     /// The worst shares by roundings, without those that are 0.
     fn roundings(&self) -> String {
         let shares = self.by_roundings.iter().enumerate();
@@ -91,7 +98,11 @@ impl fmt::Display for Radius {
         }
         match self.roundings() {
             roundings if roundings.is_empty() => Ok(()),
-            roundings => writeln!(out, "  worst shares by number of roundings: {roundings}"),
+            roundings => writeln!(
+                out,
+                "  worst shares by number of roundings: {roundings}; mean share {:.4}",
+                self.mean()
+            ),
         }
     }
 }

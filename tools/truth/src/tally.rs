@@ -36,6 +36,8 @@ pub struct Tally {
     /// Those that stand for more than 0.
     pub standing: u64,
     pub worst: Option<(Share, Pixel)>,
+    /// The shares of those that stand for more than 0, added up: for printing alone.
+    pub shares: f64,
     /// The worst shares by how many roundings led to the pixel.
     pub by_roundings: [Option<Share>; ROUNDINGS],
     /// Pixels that lie further off than is allowed, and the first of them.
@@ -58,6 +60,7 @@ impl Tally {
             self.first_broken.get_or_insert(pixel);
             return;
         };
+        self.shares += f64::from(share);
         if self.worst.is_none_or(|(worst, _)| share > worst) {
             self.worst = Some((share, pixel));
         }

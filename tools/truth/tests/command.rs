@@ -49,10 +49,11 @@ fn made_frames() {
         assert!((100..400).contains(&index), "{line}");
         assert!(line.contains(" 0 past the bound"), "{line}");
     }
-    assert_eq!(
-        lines(&text, "  worst shares by number of roundings: ").len(),
-        3
-    );
+    let by_roundings = lines(&text, "  worst shares by number of roundings: ");
+    assert_eq!(by_roundings.len(), 3);
+    assert!(by_roundings
+        .iter()
+        .all(|line| line.contains("; mean share 0.0")));
     let (one, status) = run(
         &folder,
         &["--seed", "31", "--count", "20", "--blur-radius", "2"],

@@ -39,6 +39,12 @@ fn the_documents_frame() {
     let tally = hold(&map, &whole, 3);
     assert_eq!((tally.pixels, tally.standing, tally.broken), (49, 49, 0));
     let middle = Share::of(map[24], 49, 440_000);
+    let shares = map.iter().enumerate().map(|(at, value)| {
+        let window = Window::about((at % 7, at / 7), (7, 7), 3);
+        f64::from(Share::of(*value, window.count(), whole.sum(&window)).unwrap())
+    });
+    assert_eq!(tally.shares, shares.sum::<f64>());
+    assert!(tally.shares > f64::from(middle.unwrap()));
     assert_eq!(tally.by_roundings[15], middle);
     assert_eq!(
         tally.by_roundings.iter().max().unwrap(),
