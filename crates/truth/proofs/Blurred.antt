@@ -1,5 +1,5 @@
 -- The box blur by its roundings. Of a map whose values are whole numbers but for k roundings, a blurred value is its window's total by its
--- window's pixels, but for k and one for each column of the window, each row and one more. Assumes nothing.
+-- window's pixels, but for k and one for each column of the window, each row and one more: `roundings`, over the radius. Assumes nothing.
 use mathlib.Core.Path.{_≡_, _∙_}
 use Prim.Native.Nat.{ℕ, zero, suc, _+_, _-_, _*_, _^_, _≤_, _<_}
 use native.Mathlib.Nat.{le-trans, mul-le-mul, mul-le-mul-left, mul-pos, add-zero, zero-add, add-suc, mul-one, one-mul}
@@ -69,8 +69,21 @@ module _ (f : ℕ → Float) (P : ℕ → ℕ) (k q : ℕ) where
 
 -- ---- the two passes
 
-at-most : (k c d : ℕ) → c ≤ 7 → d ≤ 7 → k + c + d + 1 ≤ k + 15
-at-most k c d m n = omega arith
+-- as many as a blur of radius r has at most: sums and a quotient along a whole window, sums, a reciprocal and a product down it
+abbrev pub roundings : ℕ → ℕ
+roundings zero = 0
+roundings (suc r) = 4 * suc r + 3
+
+-- 7, 11 and 15
+pub roundings-most : (r : ℕ) → r ≤ 3 → roundings r ≤ 15
+roundings-most zero b = lit≤ tt
+roundings-most (suc r) b = omega arith
+
+side-most : (n r x : ℕ) → counted n r x ≤ 2 * r + 1
+side-most n r x = omega arith
+
+at-most : (k r c d : ℕ) → c ≤ 2 * r + 1 → d ≤ 2 * r + 1 → k + c + d + 1 ≤ k + (4 * r + 3)
+at-most k r c d m n = omega arith
 
 -- a map g that is G but for k roundings
 module _ (k : ℕ) (K : k ≤ 16) (g : ℕ → ℕ → Float) (G : ℕ → ℕ → ℕ) (w h : ℕ) (below : (i j : ℕ) → G i j ≤ 2 ^ 32)
@@ -146,10 +159,10 @@ module _ (k : ℕ) (K : k ≤ 16) (g : ℕ → ℕ → Float) (G : ℕ → ℕ �
       window-total w h 0 x y G ∙ rw (alone w x a, alone h y c, sum-one, sum-one, ex, ey)
 
   pub blur-rounded : (r x y : ℕ) → r ≤ 3 → x < w → y < h
-      → Rounded (k + 15) (total G (window w h r x y)) (length (window w h r x y)) (blurAt g w h r x y)
+      → Rounded (k + roundings r) (total G (window w h r x y)) (length (window w h r x y)) (blurAt g w h r x y)
   unfolding blurAt along both
-  blur-rounded zero x y b a c =
-      rw (total-alone x y a c, window-pixels w h 0 x y, alone w x a, alone h y c) (rounded-upto (k + 15) (omega arith) (is x y))
+  blur-rounded zero x y b a c = rw (total-alone x y a c, window-pixels w h 0 x y, alone w x a, alone h y c, add-zero) (is x y)
   blur-rounded (suc r) x y b a c =
-      let used = at-most k (counted w (suc r) x) (counted h (suc r) y) (window-few w (suc r) x b) (window-few h (suc r) y b) in
-      rw (window-total w h (suc r) x y G, window-pixels w h (suc r) x y) (rounded-upto (k + 15) used (column-rounded (suc r) x y b a c))
+      let used = at-most k (suc r) (counted w (suc r) x) (counted h (suc r) y) (side-most w (suc r) x) (side-most h (suc r) y) in
+      rw (window-total w h (suc r) x y G, window-pixels w h (suc r) x y)
+      (rounded-upto (k + roundings (suc r)) used (column-rounded (suc r) x y b a c))

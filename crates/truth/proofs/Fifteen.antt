@@ -6,7 +6,7 @@ use native.Mathlib.Omega.{arith}
 use lib.Dec.{lit<, lit≤}
 use lib.Ieee.{Float, up, down}
 use Rattle.float.proofs.Once.{unit, over, under}
-use Rattle.float.proofs.Rounded.{Between, Rounded, rounded}
+use Rattle.float.proofs.Rounded.{Between, Rounded, rounded, rounded-upto}
 use Rattle.truth.specs.Truth.{apart, part, Truthful}
 
 -- ---- the computed end
@@ -30,6 +30,9 @@ close-by H M L E N a c pos up down h =
     let least : (part - 1) * p ≤ part * (a * N) = le-of-mul-le-mul-right {k = M} (omega (arith, h .least, mul-le-mul-left p down)) pos in
     omega arith
 
-pub fifteen-true : {E N : ℕ} {x : Float} → Rounded 15 E N x → Truthful E N x
-fifteen-true {E} {N} (rounded {m = m} {e = e} h) =
+fifteen : {E N : ℕ} {x : Float} → Rounded 15 E N x → Truthful E N x
+fifteen {E} {N} (rounded {m = m} {e = e} h) =
     record { number = (refl, refl); close = close-by (over ^ 15) (unit ^ 15) (under ^ 15) E N (m * up e) (down e) (lit< tt) upward downward h }
+
+pub fifteen-true : {k E N : ℕ} {x : Float} → k ≤ 15 → Rounded k E N x → Truthful E N x
+fifteen-true b h = fifteen (rounded-upto 15 b h)

@@ -2,12 +2,13 @@
 -- Assumes nothing.
 use mathlib.Core.Path.{_≡_, refl}
 use mathlib.Core.Bool.{false}
-use Prim.Native.Nat.{ℕ, _*_, _≤_, _<_}
+use Prim.Native.Nat.{ℕ, _*_, _^_, _≤_, _<_}
 use native.Mathlib.Nat.{le-trans}
+use native.Mathlib.Omega.{arith}
 use lib.Dec.{T, lit≤}
 use lib.Ieee.{binary32, fits}
 use lib.Ieee.Exact.{HasValue}
-use Rattle.float.proofs.Rounded.{rounded-whole}
+use Rattle.float.proofs.Rounded.{Rounded, rounded-whole}
 use Rattle.grid.specs.Ways.{pixel, value}
 use Rattle.params.specs.declared.settings.RadonDetectorParams.{RadonDetectorParams}
 use Rattle.params.specs.Settings.{factorOf, rayOf}
@@ -20,7 +21,7 @@ use Rattle.radon.proofs.Cases.{map-at, work-at}
 use Rattle.truth.specs.Truth.{wholeAt, TrueTo}
 use Rattle.truth.proofs.Windows.{window-ext}
 use Rattle.truth.proofs.Strengths.{whole-ext, whole-most, whole-is}
-use Rattle.truth.proofs.Blurred.{blur-rounded}
+use Rattle.truth.proofs.Blurred.{roundings-most, blur-rounded}
 use Rattle.truth.proofs.Fifteen.{fifteen-true}
 
 -- the unblurred response, in whole numbers, of the working image in these buffers
@@ -57,8 +58,10 @@ module _ (factor ray : ℕ) (f : ℕ → ℕ → ℕ) (w h : ℕ) (most : (x y :
   map-true : (blur x y : ℕ) → blur ≤ 3 → x < W → y < H → TrueTo (wholeAt work W H ray) W H blur x y (mapAt factor ray blur f w h x y)
   unfolding mapAt
   map-true blur x y b u v =
-      fifteen-true (blur-rounded 0 (lit≤ tt) (rawAt factor ray f w h) (wholeAt work W H ray) W H
-      (λ i j. le-trans (whole-most work W H ray bright l i j) (lit≤ tt)) raw-fits (λ i j. rounded-whole _ _ (raw-is i j)) blur x y b u v)
+      let below : (i j : ℕ) → wholeAt work W H ray i j ≤ 2 ^ 32 = λ i j. le-trans (whole-most work W H ray bright l i j) (lit≤ tt) in
+      let is : (i j : ℕ) → Rounded 0 (wholeAt work W H ray i j) 1 (rawAt factor ray f w h i j) = λ i j. rounded-whole _ _ (raw-is i j) in
+      fifteen-true (omega (arith, roundings-most blur b))
+      (blur-rounded 0 (lit≤ tt) (rawAt factor ray f w h) (wholeAt work W H ray) W H below raw-fits is blur x y b u v)
 
 -- ---- the lent buffers after the map's passes, beside the working image that these left
 

@@ -4,8 +4,8 @@ use std::fs;
 use std::path::{Path, PathBuf};
 
 use frames::Named;
-use steyrbunk::Finder;
-use truth::{look, Pixel};
+use steyrbunk::{Finder, Image, Settings};
+use truth::{look, Pixel, Whole, Window};
 
 /// A frame, its radii, and the pixel with the worst share of its map.
 struct Worst {
@@ -173,4 +173,42 @@ fn stripes() {
     assert_eq!(others("blur3-ray7-stripes.pgm"), few);
     assert_eq!(others("blur3-ray7-one-pixel.pgm"), [(9, 0)]);
     assert_eq!(others("blur3-ray7-short.pgm"), [(8, 5), (9, 7)]);
+}
+
+/// The same sum, and another value: a window is summed in one order, so that a frame and its mirror image differ. docs/USING.md has these.
+#[test]
+fn mirrored_and_turned() {
+    let path = folder().join("blur3-ray7-one-pixel.pgm");
+    let file = fs::read(&path).unwrap();
+    let named = Named {
+        ray_radius: Some(7),
+        image_upsample: Some(1),
+        ..Named::default()
+    };
+    let frame = frames::open(&path, &file, &named, false).unwrap();
+    let settings = Settings {
+        response_blur_radius: 3,
+        ..frame.settings
+    };
+    let side = frame.image.width;
+    let middle = |place: fn(usize, usize, usize) -> (usize, usize)| {
+        let pixel = |at: usize| {
+            let (x, y) = place(at % side, at / side, side);
+            frame.image.pixels[y * side + x]
+        };
+        let pixels: Vec<u8> = (0..side * side).map(pixel).collect();
+        let image = Image {
+            pixels: &pixels,
+            ..frame.image
+        };
+        let mut finder = Finder::new();
+        let map = finder.response(image, &settings).unwrap();
+        let window = Window::about((side / 2, side / 2), (side, side), 3);
+        let sum = Whole::of(map.working, side, side, 7).sum(&window);
+        (map.response[side * side / 2], sum)
+    };
+    let sum = 117_479_618;
+    assert_eq!(middle(|x, y, _| (x, y)), (2_397_542.0, sum));
+    assert_eq!(middle(|x, y, side| (side - 1 - x, y)), (2_397_543.5, sum));
+    assert_eq!(middle(|x, y, _| (y, x)), (2_397_543.0, sum));
 }
