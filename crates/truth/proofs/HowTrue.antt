@@ -76,7 +76,7 @@ module _ (img : List ℕ) (w h : ℕ) (p : RadonDetectorParams) (bytes : Bytes i
       let whole-is = whole-left (pixel img w) w h p (length img) (b .map) (byte-most img w bytes) ran x y in
       rw (value-is, map-is img w h p b blurred, whole-is) (raw-is factor ray (pixel img w) w h (byte-most img w bytes) (ran .ray-most) x y)
 
--- ---- where E is below 2 ^ 19 it is the whole number nearest to v · N, so the f32 gives it back
+-- ---- where E is below 2 ^ 19 it is the whole number nearest to v · N, so the f32 gives it back: twice their difference is below 1
 
 pub total-back : {E N : ℕ} {v : Float} → Truthful E N v → E < 2 ^ 19 → 2 * apart (num v * N) (E * den v) < den v
 total-back {E} {N} {v} t l = omega (arith, t .close, den-pos v, mul-le-mul-right (den v) l)

@@ -1,4 +1,4 @@
--- The unblurred response of an eight-bit image is a whole number below 2 ^ 24, and a value of the format. Assumes nothing.
+-- The unblurred response of an eight-bit image is a whole number, at most 2 ^ 24, and comes from the image's own pixels. Assumes nothing.
 use mathlib.Core.Path.{_≡_, refl, ap}
 use mathlib.Core.Bool.{Bool, true, false, cond}
 use Prim.Native.Nat.{ℕ, _*_, _^_, _≤_, _<_}
@@ -15,7 +15,6 @@ use Rattle.rays.proofs.SpreadExact.{spread-most, exact}
 use Rattle.truth.specs.Truth.{wholeAt}
 
 module _ (f : ℕ → ℕ → ℕ) (w h r : ℕ) where
-  -- by the image's own pixels
   pub whole-ext : (g : ℕ → ℕ → ℕ) (x y : ℕ) → ((i j : ℕ) → i < w → j < h → f i j ≡ g i j)
       → wholeAt f w h r x y ≡ wholeAt g w h r x y
   unfolding wholeAt

@@ -31,12 +31,12 @@ apart a b = a - b + (b - a)
 abbrev pub part : ℕ
 part = 2 ^ 20
 
--- "v times N differs from E by at most E divided by 2^20": v is a number without a sign, the fraction num v / den v; both sides are multiplied
--- by den v and by 2^20
+-- "The blurred f32 times N differs from E by at most E divided by 2^20": v is a number without a sign, the fraction num v / den v, and both
+-- sides are multiplied by den v and by 2^20
 pub record Truthful (E N : ℕ) (v : Float) : Type 0 where
   pub number : HasValue v false (num v) (den v)
   pub close : apart (num v * N) (E * den v) * part ≤ E * den v
 
--- v is what a map of whole numbers g, w wide and h high, is blurred to at x and y, and true
+-- the same with E and N of the window about x and y in a map of whole numbers g, w wide and h high
 abbrev pub TrueTo : (ℕ → ℕ → ℕ) → ℕ → ℕ → ℕ → ℕ → ℕ → Float → Type 0
 TrueTo g w h r x y v = Truthful (total g (window w h r x y)) (length (window w h r x y)) v
