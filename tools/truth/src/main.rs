@@ -32,7 +32,8 @@ without a blur the map must be these numbers exactly. Maps are the library's, of
                        same frame
   --stripes            the search keeps to frames that depend on x alone, but for the first column
                        beside the window
-  --keep FOLDER        the search writes the worst frame of each blur radius there, as a PGM picture
+  --keep FOLDER        the search writes the worst frame of each blur radius there, as a PGM picture;
+                       a folder that is new or empty, so that no frame of another search is in it
 
 The summary has for each blur radius the pixels, those with E above 0, and the worst share with its
 frame, pixel, the bits of v, N and E; and the worst by the number of roundings on the way to a pixel,
@@ -229,8 +230,18 @@ fn kept(folder: &Path, canvas: &Canvas) -> Result<(), Usage> {
     let path = folder.join(format!("blur{}-ray{}.pgm", shape.blur, shape.ray));
     let mut file = format!("P5\n{} {}\n255\n", shape.width, shape.height).into_bytes();
     file.extend(canvas.pixels());
-    let written = fs::create_dir_all(folder).and_then(|()| fs::write(&path, file));
-    written.or_else(|error| Usage::wrong(format!("{}: {error}", path.display())))
+    let written = fs::write(&path, file);
+    written.or_else(|error| Usage::wrong(format!("{}: {error}", shown(&path))))
+}
+
+/// A folder for the frames of one search, before the time is spent on it.
+fn empty(folder: &Path) -> Result<(), Usage> {
+    let opened = fs::create_dir_all(folder).and_then(|()| fs::read_dir(folder));
+    match opened.map(|mut entries| entries.next().is_none()) {
+        Ok(true) => Ok(()),
+        Ok(false) => Usage::wrong(format!("{} is not empty", shown(folder))),
+        Err(error) => Usage::wrong(format!("{}: {error}", shown(folder))),
+    }
 }
 
 fn searched(
@@ -240,6 +251,7 @@ fn searched(
     blurs: &[u32],
     keep: Option<&Path>,
 ) -> Result<Summary, Usage> {
+    keep.map_or(Ok(()), empty)?;
     let (mut summary, mut finder) = (Summary::default(), Finder::new());
     for &blur in blurs {
         let mut progress = Progress::new(Some(steps), "strokes");

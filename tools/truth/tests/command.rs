@@ -125,6 +125,10 @@ fn the_search_is_the_same_again() {
         text
     };
     let (first, again, other) = (search("3", "a"), search("3", "b"), search("4", "c"));
+    // Frames of another search are not mixed with these.
+    let mut mixed = words.to_vec();
+    mixed.push("a");
+    assert_eq!(run(&folder, &mixed), (String::new(), 2));
     assert_eq!(first, again);
     assert_ne!(first, other);
     assert_eq!(lines(&first, "blur ").len(), 3);
