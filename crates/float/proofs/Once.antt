@@ -30,9 +30,9 @@ under = 16777215
 -- ---- to the nearest multiple of u: by at most half of u
 
 -- twice m is no further than u from twice n
-pub record Half (m n u : ℕ) : Type 0 where
-  pub most : 2 * m ≤ 2 * n + u
-  pub least : 2 * n ≤ 2 * m + u
+record Half (m n u : ℕ) : Type 0 where
+  most : 2 * m ≤ 2 * n + u
+  least : 2 * n ≤ 2 * m + u
 
 -- q whole ones and a remainder r, and on which side of the half it lies
 half-of : (q r u : ℕ) (o : Ordering) → (T (isLe o) → r * 2 ≤ u) → (T (not (isLe o)) → u < r * 2) → (T (isEq o) → r * 2 ≡ u) → r ≤ u

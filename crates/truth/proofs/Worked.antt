@@ -1,13 +1,13 @@
 -- Values worked out, E and N beside the f32: in document 01's frame, in windows that are cut, and in a frame on which 2 ^ 21 for 2 ^ 20 would not do.
 -- Assumes nothing.
 use mathlib.Core.Path.{_≡_, refl}
-use mathlib.Core.Bool.{false, cond, _&&_}
+use mathlib.Core.Bool.{cond, _&&_}
 use mathlib.Core.List.{List, [], _∷_}
 use Prim.Native.Nat.{ℕ, _*_, _^_, _<_}
 use lib.Dec.{lit<, eqb}
-use lib.IntN.{pos, negsuc}
 use lib.ListN.{length, getD}
-use lib.Ieee.{fin, ofBits, ofInt, add, mul, div, sum, round, units, odd, size, span, climb}
+use lib.Ieee.{ofBits, ofInt, add, mul, div, sum, round, units, odd, size, span, climb}
+use lib.Ieee.Positive.{num, den}
 use Rattle.grid.specs.Each.{each}
 use Rattle.grid.specs.Fold.{fold}
 use Rattle.grid.specs.Rect.{from, range, line, rect}
@@ -20,47 +20,36 @@ use Rattle.response.specs.Map.{rawAt, mapAt}
 use Rattle.radon.proofs.TableP.{frame}
 use Rattle.truth.specs.Truth.{wholeAt, window, total, apart}
 
--- N: whole in the middle, cut at a corner, at the right edge and at the lower one, the pixel alone; and that of the last frame below
+-- N: whole in the middle, cut at a corner, at the right edge and at the lower one, and the pixel alone
 pub pixels : (length (window 7 7 3 3 3) ≡ 49) × (length (window 7 7 3 0 0) ≡ 16) × (length (window 7 7 3 6 3) ≡ 28) × (length (window 7 7 2 3 6) ≡ 15)
-    × (length (window 7 7 0 6 6) ≡ 1) × (length (window 21 21 3 10 10) ≡ 49)
+    × (length (window 7 7 0 6 6) ≡ 1)
 unfolding window rect range line each from
-pixels = (refl, refl, refl, refl, refl, refl)
+pixels = (refl, refl, refl, refl, refl)
 
--- ---- document 01's frame at ray radius 1 and blur radius 3, in the middle
+-- in the middle m of an image f of n by n pixels, at ray radius r and blur radius 3: E and N, the f32 as a fraction, and by how much the f32
+-- times N and E differ, times the fraction's denominator
+unfoldable pub shown : (ℕ → ℕ → ℕ) → ℕ → ℕ → ℕ → List ℕ
+shown f n r m =
+    let E = total (wholeAt (workAt 1 f n n) n n r) (window n n 3 m m) in
+    let N = length (window n n 3 m m) in
+    let v = mapAt 1 r 3 f n n m m in
+    E ∷ N ∷ num v ∷ den v ∷ apart (num v * N) (E * den v) ∷ []
 
--- E
-pub whole : total (wholeAt (workAt 1 frame 7 7) 7 7 1) (window 7 7 3 3 3) ≡ 440000
-unfolding wholeAt window total rect range line each from workAt ray fold frame raySpread
-whole = refl
-
--- the f32 is 9,195,103 / 1,024
-pub blurred : mapAt 1 1 3 frame 7 7 3 3 ≡ fin false 9195103 (negsuc 9)
-unfolding mapAt rawAt workAt blurAt columnMean rowMean meanAt windowSum fold ray frame responseAt square raySpread ofInt ofBits add sum mul div round units odd size span climb
-blurred = refl
-
--- 49 times that differs from 440,000 by 47 / 1,024, where 429 / 1,024 would be allowed
-pub differ : apart (9195103 * 49) (440000 * 1024) ≡ 47
-differ = refl
-
--- ---- a frame, found by search, on which half of the bound is passed: 21 by 21 pixels at ray radius 7 and blur radius 3, in the middle
-
--- upright stripes, but for one pixel
+-- upright stripes, but for one pixel; found by search
 abbrev stripes : List ℕ
 stripes = 4 ∷ 6 ∷ 5 ∷ 5 ∷ 5 ∷ 5 ∷ 0 ∷ 246 ∷ 246 ∷ 53 ∷ 53 ∷ 53 ∷ 53 ∷ 53 ∷ 3 ∷ 11 ∷ 1 ∷ 9 ∷ 7 ∷ 5 ∷ 5 ∷ []
 
 unfoldable pub far : ℕ → ℕ → ℕ
 far x y = cond (eqb x 0 && eqb y 9) 0 (getD stripes x 0)
 
--- E
-pub far-whole : total (wholeAt (workAt 1 far 21 21) 21 21 7) (window 21 21 3 10 10) ≡ 117479618
-unfolding wholeAt window total rect range line each from workAt ray fold far raySpread
-far-whole = refl
+-- document 01's frame at ray radius 1, and the stripes at ray radius 7
+pub worked : (shown frame 7 1 3 ≡ 440000 ∷ 49 ∷ 9195103 ∷ 1024 ∷ 47 ∷ []) × (shown far 21 7 10 ≡ 117479618 ∷ 49 ∷ 2397542 ∷ 1 ∷ 60 ∷ [])
+unfolding shown frame far wholeAt window total rect range line each from workAt ray fold raySpread mapAt rawAt blurAt columnMean rowMean meanAt windowSum responseAt square ofInt ofBits add sum mul div round units odd size span climb
+worked = (refl, refl)
 
--- the f32 is 2,397,542
-pub far-blurred : mapAt 1 7 3 far 21 21 10 10 ≡ fin false 1198771 (pos 1)
-unfolding mapAt rawAt workAt blurAt columnMean rowMean meanAt windowSum fold ray far responseAt square raySpread ofInt ofBits add sum mul div round units odd size span climb
-far-blurred = refl
+-- 47 / 1,024 is less than a 2 ^ 20th part of 440,000; 60 is more than a 2 ^ 21st part of 117,479,618, so the bound cannot be halved
+pub within-bound : 47 * 2 ^ 20 < 440000 * 1024
+within-bound = lit< tt
 
--- 49 times that differs from E by 60, which is more than a 2 ^ 21st part of E: the bound cannot be halved
-pub past-half : (apart (2397542 * 49) 117479618 ≡ 60) × (117479618 < 60 * 2 ^ 21)
-past-half = (refl, lit< tt)
+pub past-half : 117479618 < 60 * 2 ^ 21
+past-half = lit< tt

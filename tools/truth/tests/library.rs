@@ -246,3 +246,42 @@ fn refusals() {
     })
     .is_err());
 }
+
+/// A strength is the map's value at a pixel no further than half a working pixel from its corner's place, so it is within the bound too.
+#[test]
+fn strengths() {
+    let (mut finder, mut blurred, mut inexact) = (Finder::new(), [0; 4], 0);
+    for index in 0..1_500 {
+        let file = make(6, index);
+        let Ok(frame) = Frame::parse(&file) else {
+            continue;
+        };
+        let Ok(found) = finder.find(frame.image, &frame.settings) else {
+            continue;
+        };
+        let (map, factor) = (finder.map(), frame.settings.factor() as f32);
+        let blur = frame.settings.response_blur_radius as usize;
+        let ray = frame.settings.ray_radius.max(1) as usize;
+        let whole = Whole::of(map.working, map.width, map.height, ray);
+        for corner in &found.corners {
+            // Halfway between two pixels either may be the corner's.
+            let near = |place: f32| {
+                let place = place * factor;
+                (place - 0.5).ceil() as usize..=(place + 0.5).floor() as usize
+            };
+            let pixels = near(corner.y).flat_map(|y| near(corner.x).map(move |x| (x, y)));
+            let mut shares = pixels.filter_map(|(x, y)| {
+                let value = map.response[y * map.width + x];
+                let window = Window::about((x, y), (map.width, map.height), blur);
+                let share = Share::of(value, window.count(), whole.sum(&window))?;
+                (value.to_bits() == corner.strength.to_bits()).then_some(share)
+            });
+            let share = shares.next().unwrap();
+            assert!(blur > 0 || share.is_zero(), "index {index}");
+            blurred[blur] += 1;
+            inexact += usize::from(!share.is_zero());
+        }
+    }
+    assert!(blurred.iter().all(|count| *count > 1_000), "{blurred:?}");
+    assert!(inexact > 1_000, "{inexact}");
+}
