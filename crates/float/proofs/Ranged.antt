@@ -77,6 +77,9 @@ unfolding le
 from_le a c n nan x v t s = absurd v
 from_le a c n (inf b) x v t s = absurd v
 from_le a c n (fin true k d) x v t s = absurd (true≢false v.0)
+from_le a c n (fin false k d) nan v t s = elim t [ ]
+from_le a c n (fin false k d) (inf _) v t s = elim s [ ]
+from_le a c n (fin false k d) (fin true m e) v t s = elim s [ ]
 from_le a c n (fin false k d) (fin false m e) v t (sized h) =
     ranged
     (through a (k * up d) (m * up e) c (down d) (down e) (down_pos d) (le_of_eq (sym v.1)) (or_le _ _ true t))
