@@ -1,5 +1,7 @@
 // All cameras of an arch in one call: their frame files stand end to end in one slice, the work buffers serve one after the other, and each camera
 // has an equal share of the list.
+#![tactic(auto)]
+
 ghost use Rattle.std.specs.Prelude.{◌≡◌, ◌*◌, ◌≤◌, length, replicate};
 ghost use Rattle.grid.specs.Fill.{filled};
 ghost use Rattle.radon.specs.Finder.{lent};
@@ -11,7 +13,7 @@ use frame_runner::run_frame_file;
 use params::{Answer, Outcome};
 
 // What a call for an arch reports: its own answer, 0 or 21, and what each camera is told.
-#[derive(Drop)]
+#[derive(Clone, Copy)]
 pub struct ArchOutcome {
     pub answer: Answer,
     pub cameras: [Outcome; 8],

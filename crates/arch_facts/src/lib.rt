@@ -1,1 +1,2 @@
 // What holds of a call for all cameras of an arch. There is no code here.
+#![tactic(auto)]

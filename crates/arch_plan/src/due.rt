@@ -8,7 +8,7 @@ use big_endian::word_at;
 use params::Answer;
 
 // A whole frame file of so many bytes, or the refusal of one that is not whole.
-#[derive(Drop)]
+#[derive(Clone, Copy)]
 pub enum Due {
     Whole(usize),
     Refused(Answer),

@@ -1,4 +1,6 @@
 // What is known of an arch before anything is found: where each camera's frame stands, how large its share of the list is, and which calls are taken.
+#![tactic(auto)]
+
 pub use due::{Due, due_in, gone_in};
 pub use shares::{judge_arch, share_size};
 

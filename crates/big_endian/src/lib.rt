@@ -1,4 +1,6 @@
 // Numbers in bytes, the highest byte first, and the bits of an f32: what frame files and corner records are made of.
+#![tactic(auto)]
+
 ghost use Rattle.std.specs.Prelude.{◌≡◌, ◌<◌};
 ghost use Rattle.std.specs.Float.{binary32};
 ghost use Rattle.std.specs.Float.Ieee.{to_bits, of_bits};

@@ -1,10 +1,12 @@
 // The program: reads one frame file from standard input and prints its list, or the number by which it is refused.
 // What cannot be read or written leaves a word on standard error.
+#![tactic(auto)]
+
 use libc::{STDIN_FILENO, STDOUT_FILENO};
 use params::Outcome;
 
 // What reading gave: so many bytes, or none that count, since it failed.
-#[derive(Drop)]
+#[derive(Clone, Copy)]
 enum Input {
     Bytes(usize),
     Failed,

@@ -108,7 +108,7 @@ fn eight_crests(s: &[f32], i: usize, floor: f32) -> bool
 }
 
 // Where a search along a row stands, and how many of the places that it passed are above the floor.
-#[derive(Drop)]
+#[derive(Clone, Copy)]
 pub struct Stretch {
     pub end: usize,
     pub above: usize,

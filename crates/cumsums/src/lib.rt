@@ -1,4 +1,6 @@
 // The four tables: running sums of an image along its rows, columns, falling and rising diagonals. A row goes on from the one above.
+#![tactic(auto)]
+
 ghost use Rattle.std.specs.Prelude.{◌≡◌, cond, ◌+◌, ◌-◌, ◌*◌, ◌<◌, ◌≤◌, min, length, get_or};
 ghost use Rattle.grid.specs.Span.{span};
 ghost use Rattle.grid.specs.Ways.{pixel, along, down, fall, rise};
@@ -105,7 +107,7 @@ fn rising_row(img: &[u8], w: usize, y: usize, out: &mut [u32])
 }
 
 // The two kinds.
-#[derive(Drop)]
+#[derive(Clone, Copy)]
 enum Diagonal {
     Falling,
     Rising,

@@ -1,4 +1,6 @@
 // The list: which pixels of the map are corners, and where between the pixels each one lies.
+#![tactic(auto)]
+
 mod peaks;
 
 ghost use Rattle.std.specs.Prelude.{◌≡◌, length};

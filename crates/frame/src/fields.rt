@@ -8,7 +8,7 @@ use big_endian::{byte_at, word_at};
 use params::{Answer, NumberedMode, PeakFitMode};
 
 // A field's outcome.
-#[derive(Drop)]
+#[derive(Clone, Copy)]
 pub enum Field {
     Value(u32),
     Refused(Answer),

@@ -1,4 +1,6 @@
 // The frame file: which bytes are taken, and what they mean.
+#![tactic(auto)]
+
 ghost use Rattle.std.specs.Prelude.{◌≡◌, ◌≤◌, length};
 ghost use Rattle.frame.specs.FrameFile.{header_of, header_read, read_of, Pixels};
 
@@ -9,7 +11,7 @@ use params::{Answer, NumberedMode, PeakFitMode, RadonDetectorParams};
 mod fields;
 
 // What the fields of a frame file say.
-#[derive(Drop)]
+#[derive(Clone, Copy)]
 pub struct Header {
     pub width: usize,
     pub height: usize,
@@ -17,7 +19,7 @@ pub struct Header {
 }
 
 // What reading a frame file gives.
-#[derive(Drop)]
+#[derive(Clone, Copy)]
 pub enum Reading {
     Frame(Header),
     Refused(Answer),

@@ -1,4 +1,6 @@
 // From the bytes of a frame file to what it is answered: the file is read, and the finder is called over lent buffers.
+#![tactic(auto)]
+
 ghost use Rattle.std.specs.Prelude.{◌≡◌};
 ghost use Rattle.radon.specs.Finder.{lent};
 ghost use Rattle.frame_runner.specs.FileAnswer.{file_outcome, file_buffers};

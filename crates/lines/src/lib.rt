@@ -1,4 +1,6 @@
 // The printed list, line by line.
+#![tactic(auto)]
+
 ghost use Rattle.std.specs.Prelude.{◌≡◌, [], ◌*◌, ◌/◌, ◌<◌, min, length, get_or, take, drop};
 ghost use Rattle.lines.specs.Printed.{corner_line, printed};
 ghost use Rattle.lines.specs.Lines.{Shows};
@@ -8,7 +10,7 @@ use params::Outcome;
 mod text;
 
 // A printed line: its bytes from the first on, its length, and zeros behind it.
-#[derive(Drop)]
+#[derive(Clone, Copy)]
 pub struct Line {
     pub bytes: [u8; 64],
     pub len: usize,

@@ -1,5 +1,7 @@
 // A row of a map's box means: along the row, or down the columns about it. A row of sums is kept, and a whole row is added to it at a time: for the
 // columns as in the Rust, and along the row too. So no loop over pixels has a branch, and each pixel still gets its window's values in order.
+#![tactic(auto)]
+
 ghost use Rattle.std.specs.Prelude.{◌≡◌, cond, ◌+◌, ◌-◌, ◌*◌, ◌<◌, ◌≤◌, length, get_or, pos};
 ghost use Rattle.std.specs.Float.{nan, binary32};
 ghost use Rattle.std.specs.Float.Ieee.{of_int};

@@ -4,7 +4,7 @@ ghost use Rattle.params.specs.Answers.{number_of, no_verdicts, refused};
 ghost use Rattle.params.specs.Refusals.{or_else};
 
 // What a call answers. The numbers are document 01's to 14, and document 02's from there on.
-#[derive(Drop)]
+#[derive(Clone, Copy)]
 pub enum Answer {
     // 0: accepted, all corners fit
     Complete,
@@ -92,7 +92,7 @@ impl Answer {
 }
 
 // How many candidates have each verdict, in the order of the rules: the first that they fail, or kept.
-#[derive(Drop)]
+#[derive(Clone, Copy)]
 pub struct Verdicts {
     pub not_above: usize,
     pub beaten: usize,
@@ -119,7 +119,7 @@ impl Verdicts {
 }
 
 // What a call reports: its answer, how many corners it found, the working image's sides, and what became of the candidates.
-#[derive(Drop)]
+#[derive(Clone, Copy)]
 pub struct Outcome {
     pub answer: Answer,
     pub count: usize,

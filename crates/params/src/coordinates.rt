@@ -5,11 +5,11 @@ ghost use Rattle.params.specs.Coordinates.{to_input};
 use crate::settings::clamped;
 
 // A coordinate in pixels of the working image.
-#[derive(Drop)]
+#[derive(Clone, Copy)]
 pub struct Working(pub f32);
 
 // A coordinate in pixels of the input image.
-#[derive(Drop)]
+#[derive(Clone, Copy)]
 pub struct Input(pub f32);
 
 impl Working {

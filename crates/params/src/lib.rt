@@ -1,4 +1,6 @@
 // What every other crate goes by: the settings, the two kinds of coordinates, the numbered answers and who judges them.
+#![tactic(auto)]
+
 mod answers;
 mod coordinates;
 mod judges;

@@ -5,7 +5,7 @@ ghost use Rattle.params.specs.Settings.{defaults, existing_sites, factor_of, ray
 use crate::Answer;
 
 // How a peak is fitted between pixels.
-#[derive(Drop)]
+#[derive(Clone, Copy)]
 pub enum PeakFitMode {
     // A parabola through the three values.
     Parabolic,
@@ -14,7 +14,7 @@ pub enum PeakFitMode {
 }
 
 // What a number stands for where a mode is due.
-#[derive(Drop)]
+#[derive(Clone, Copy)]
 pub enum NumberedMode {
     Known(PeakFitMode),
     Refused(Answer),
@@ -34,7 +34,7 @@ impl PeakFitMode {
 }
 
 // The settings of one call. Radii are working-resolution pixels.
-#[derive(Drop)]
+#[derive(Clone, Copy)]
 pub struct RadonDetectorParams {
     pub ray_radius: u32,
     pub image_upsample: u32,

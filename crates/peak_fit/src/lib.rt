@@ -1,5 +1,7 @@
 // The peak of three map values along one axis, counted in pixels from the middle one: that of the parabola through
 // them, or through their logarithms, which fits a Gaussian through the values.
+#![tactic(auto)]
+
 ghost use Rattle.std.specs.Prelude.{◌≡◌};
 ghost use Rattle.peak_fit.specs.PeakFit.{usable, all_usable, all_above, clamped, peak_of};
 ghost use Rattle.peak_fit.specs.PeakFit.{peak_of_three, peak_of_logs, by_mode, fit_of};

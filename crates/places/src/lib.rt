@@ -1,9 +1,11 @@
 // The places and rows of a map: the response with its sides, beside the working image that it was computed from.
+#![tactic(auto)]
+
 ghost use Rattle.std.specs.Prelude.{◌≡◌, ◌*◌, leb};
 ghost use Rattle.places.specs.Places.{row_inside, place_at, Row};
 
 // What stands at a place of the map.
-#[derive(Drop)]
+#[derive(Clone, Copy)]
 pub enum Place {
     Value(f32),
     Outside,

@@ -1,4 +1,6 @@
 // What the program answers to a frame file: the finder is called over work buffers of the program's own.
+#![tactic(auto)]
+
 ghost use Rattle.std.specs.Prelude.{◌≡◌, List, ℕ, length, take};
 ghost use Rattle.lines.specs.Printed.{printed};
 ghost use Rattle.frame_runner.specs.FileAnswer.{file_outcome, file_buffers};

@@ -1,4 +1,6 @@
 // The finder: from an image to its corners in one call, over buffers that the caller lends, with every refusal.
+#![tactic(auto)]
+
 ghost use Rattle.std.specs.Prelude.{◌≡◌};
 ghost use Rattle.radon.specs.Finder.{lent, outcome_of, buffers_of};
 

@@ -1,4 +1,6 @@
 // The four tables of running sums and the response of the rays, over buffers that the caller lends.
+#![tactic(auto)]
+
 mod rays;
 
 ghost use Rattle.std.specs.Prelude.{◌≡◌, cond, ◌&&◌, min, leb, length};
@@ -10,7 +12,7 @@ use cumsums::build_cumsums;
 use sizes::{fits, lesser};
 
 // The sides of an image, and the radius of its rays.
-#[derive(Drop)]
+#[derive(Clone, Copy)]
 pub struct Size {
     pub w: usize,
     pub h: usize,

@@ -9,7 +9,7 @@ ghost use Rattle.rays.specs.Shown.{shown, Held, entry_at, Between, read_at, Shor
 use crate::Size;
 
 // Row y of an image, with the sides of the image and the radius of its rays.
-#[derive(Drop)]
+#[derive(Clone, Copy)]
 pub struct Row {
     pub w: usize,
     pub h: usize,

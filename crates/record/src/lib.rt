@@ -1,4 +1,6 @@
 // The corner record: a list of corners with the sides of its working image, written as bytes and read back.
+#![tactic(auto)]
+
 pub use reader::read_record;
 pub use writer::write_record;
 

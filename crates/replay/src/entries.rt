@@ -6,7 +6,7 @@ ghost use Rattle.replay.specs.declared.entries.Kind.TheVariants as kind;
 use vectors::{byte, differ, float_at, plus, skip, word, word_at};
 
 // What was compared, and the place behind it: how many values disagree, of how many.
-#[derive(Drop)]
+#[derive(Clone, Copy)]
 pub struct Compared {
     pub next: usize,
     pub wrong: usize,
@@ -14,7 +14,7 @@ pub struct Compared {
 }
 
 // What a buffer holds: a byte of it stands in a list as a byte, any other as four.
-#[derive(Drop)]
+#[derive(Clone, Copy)]
 pub enum Kind {
     Bytes,
     Words,

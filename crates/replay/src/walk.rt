@@ -8,7 +8,7 @@ use vectors::{after_line, plus};
 const RECORDS: usize = 65536;
 
 // How many records there were, how many disagree, and the number of the first of those, counted from 0.
-#[derive(Drop)]
+#[derive(Clone, Copy)]
 pub struct Tally {
     pub records: usize,
     pub wrong: usize,
@@ -51,7 +51,7 @@ fn earliest(t: Tally) -> usize
 }
 
 // Where the next record stands, how many more may be read, and what was counted.
-#[derive(Drop)]
+#[derive(Clone, Copy)]
 pub struct Walk {
     pub next: usize,
     pub left: usize,

@@ -1,5 +1,7 @@
 // Replays arches and compares with what tools/arch_vectors.py lists; and each camera whose frame lies whole with a single call of the program's
 // function: answer, count and sides, every number of the list, to the bit, and that each work entry which no frame reaches is as it was.
+#![tactic(auto)]
+
 use libc::STDIN_FILENO;
 use params::{Outcome, Verdicts};
 use replay::{Compared, Walk};

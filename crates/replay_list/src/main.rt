@@ -1,6 +1,8 @@
 // Replays frames through the finder and compares the lists: count, the six counts by verdict, strengths and order to the bit in both modes, places to
 // the bit in parabolic mode. In Gaussian mode the original's logarithm is the platform's: of those places it counts which agree to the bit, which lie within 0.001, and
 // which beyond.
+#![tactic(auto)]
+
 use libc::STDIN_FILENO;
 use params::{Outcome, Verdicts};
 use replay::Walk;
@@ -12,7 +14,7 @@ const NEAR: f32 = 0.001;
 
 // What was compared, and the place behind it: how many numbers disagree, and of the Gaussian corners how many have their place to the bit, within
 // the distance, beyond it.
-#[derive(Drop)]
+#[derive(Clone, Copy)]
 struct Compared {
     next: usize,
     wrong: usize,

@@ -1,4 +1,6 @@
 // Replays frames through the map's entry and compares working image, tables, response and scratch to the bit.
+#![tactic(auto)]
+
 use frame::Reading;
 use libc::STDIN_FILENO;
 use replay::{Compared, Walk};

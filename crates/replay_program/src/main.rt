@@ -1,5 +1,7 @@
 // Replays frame files through all that the program `corners` does and compares the whole of what is printed.
 // Places of a list in Gaussian mode may differ, since the original's logarithm is the platform's: they are counted.
+#![tactic(auto)]
+
 ghost use Rattle.std.specs.Prelude.{◌≡◌, min, length, take};
 
 use libc::STDIN_FILENO;
@@ -12,7 +14,7 @@ const STRENGTH: usize = 18;
 const CORNER: usize = 27;
 
 // What was compared, and the place behind it: lines that disagree, and corners that differ in their places alone.
-#[derive(Drop)]
+#[derive(Clone, Copy)]
 struct Compared {
     next: usize,
     wrong: usize,

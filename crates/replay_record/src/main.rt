@@ -1,5 +1,7 @@
 // Replays corner records, read and written, and compares with what tools/record_vectors.py lists: the answer, the count and the sides of each call,
 // what it wrote, to the bit, and that every other entry of the lent buffer is as it was.
+#![tactic(auto)]
+
 use libc::STDIN_FILENO;
 use params::Outcome;
 use replay::Walk;
@@ -66,7 +68,7 @@ fn tell_calls(name: &[u8], calls: &[usize; 32]) {
 }
 
 // What was compared, and the place behind it: how many things disagree, what the vector is, and what it was answered.
-#[derive(Drop)]
+#[derive(Clone, Copy)]
 struct Compared {
     next: usize,
     wrong: usize,

@@ -1,5 +1,7 @@
 // Replays the vectors of its input: how many roots agree, how many logarithms, and how many of those are within 2^-19 of L.
 // The input is as tools/scalar_vectors.py says: a line of text, then records of big-endian numbers.
+#![tactic(auto)]
+
 ghost use Rattle.std.specs.Prelude.{◌≤◌};
 
 use libc::{STDIN_FILENO, STDOUT_FILENO};
@@ -18,7 +20,7 @@ const CLOSE: u64 = 2097151;
 const FAR: u64 = 9223372036854775808;
 
 // What a record is compared by.
-#[derive(Drop)]
+#[derive(Clone, Copy)]
 enum Kind {
     Root,
     Log,
@@ -26,7 +28,7 @@ enum Kind {
 }
 
 // How many records agree, and the place of the first that does not.
-#[derive(Drop)]
+#[derive(Clone, Copy)]
 struct Tally {
     agree: usize,
     first: usize,

@@ -1,4 +1,6 @@
 // The Radon response map: working image, four tables of running sums, response, blur. Each pass is a crate; this is their one entry.
+#![tactic(auto)]
+
 ghost use Rattle.std.specs.Prelude.{◌≡◌, min};
 ghost use Rattle.response.specs.Map.{map_lent, mapped_of, map_buffers_of};
 
@@ -9,7 +11,7 @@ use sizes::lesser;
 use upsample::upsample;
 
 // What the map's entry reports: its answer and the working image's sides.
-#[derive(Drop)]
+#[derive(Clone, Copy)]
 pub struct Mapped {
     pub answer: Answer,
     pub w: usize,

@@ -3,6 +3,8 @@
 // diagonal of the board and the other way along the other. So a quadric a x² + b xy + c y² (constant and linear terms
 // drop out) is fitted by least squares over a disk of pixels, and its two curvatures are compared. A disk and not a
 // square: on a square a thin line along a diagonal shows in the xy term alone, and would pass.
+#![tactic(auto)]
+
 ghost use Rattle.std.specs.Prelude.{◌≡◌, cond, ◌≤◌, ◌<◌, length};
 ghost use Rattle.grid.specs.Ways.{pixel};
 ghost use Rattle.saddle.specs.Saddle.{side, apart, offset, moments_of, norms_of, saddle_of, saddle_numbers};
@@ -13,7 +15,7 @@ use scalar::Root;
 
 // What a radius fixes: the mean of the squared distance over the disk, and 1 over the norms of r² - mean, of x² - y²
 // and of xy.
-#[derive(Drop)]
+#[derive(Clone, Copy)]
 pub struct SaddleTest {
     pub mean_r2: f32,
     pub inv_u: f32,
@@ -22,7 +24,7 @@ pub struct SaddleTest {
 }
 
 // The verdict: a saddle, too flat to tell, or curved to one side. Flat is tested first.
-#[derive(Drop)]
+#[derive(Clone, Copy)]
 pub enum Saddle {
     Yes,
     Flat,
@@ -30,14 +32,14 @@ pub enum Saddle {
 }
 
 // How many places a disk has, and their squared distances added up.
-#[derive(Drop)]
+#[derive(Clone, Copy)]
 struct Moments {
     n: f32,
     r2: f32,
 }
 
 // The image projected on r² - mean, x² - y² and xy; or the norms of these.
-#[derive(Drop)]
+#[derive(Clone, Copy)]
 struct Sums {
     u: f32,
     v: f32,
@@ -45,7 +47,7 @@ struct Sums {
 }
 
 // The columns of a row that the disk has: from the first to before the end.
-#[derive(Drop)]
+#[derive(Clone, Copy)]
 struct Span {
     first: usize,
     end: usize,

@@ -1,4 +1,6 @@
 // The two functions of an f32 that Rattle lacks: the correctly rounded square root, and a natural logarithm that is a cut series.
+#![tactic(auto)]
+
 ghost use Rattle.std.specs.Prelude.{◌≡◌, Float};
 ghost use Rattle.scalar.specs.Root.{root_of};
 ghost use Rattle.scalar.specs.Log.{log_of, Near, terms, high};
@@ -6,13 +8,13 @@ ghost use Rattle.scalar.specs.Log.{log_of, Near, terms, high};
 mod logarithm;
 mod square_root;
 
-#[derive(Drop)]
+#[derive(Clone, Copy)]
 pub enum Root {
     Value(f32),
     Outside,
 }
 
-#[derive(Drop)]
+#[derive(Clone, Copy)]
 pub enum Log {
     Value(f32),
     Outside,

@@ -18,7 +18,7 @@ const WIDE_FIELD: u64 = 8388608;
 const LEAST_SCALED: u64 = 70368744177664;
 
 // A number n * 4^(h - 149).
-#[derive(Drop)]
+#[derive(Clone, Copy)]
 struct Scaling {
     n: u64,
     h: u32,

@@ -1,4 +1,6 @@
 // Sizes compared: the lesser and the larger of two, a difference that stops at 0, and whether a map fits into a buffer and a square into the map.
+#![tactic(auto)]
+
 ghost use Rattle.std.specs.Prelude.{◌≡◌, ◌-◌, min, max};
 ghost use Rattle.sizes.specs.Fits.{fits_in, clear_of, square_fits};
 

@@ -2,6 +2,8 @@
 // numbers and slices, and every answer as its number. A slice is a pointer and a length there. The header in tools/steyrbunk/include explains each argument.
 // An entry that takes more than before has a new name: what was built for the old one does not link, where it would be written through an argument that
 // was never passed.
+#![tactic(auto)]
+
 ghost use Rattle.std.specs.Prelude.{◌≡◌, ◌+◌, ◌≤◌, length};
 ghost use Rattle.std.proofs.lemmas.List.Edits.{sets};
 ghost use Rattle.grid.specs.Each.{each};
@@ -24,7 +26,7 @@ use response::radon_response_u8;
 use scalar::{Log, Root};
 
 // The settings that a call's numbers give.
-#[derive(Drop)]
+#[derive(Clone, Copy)]
 enum Settings {
     Given(RadonDetectorParams),
     // The number of the mode is above 1.

@@ -1,5 +1,7 @@
 // The verdict on one place, for drawings of what was dropped: for a C or Rust program to call, in an archive of its own. In the finder's a second
 // caller would keep the rules from being compiled into the scan, which is slower then.
+#![tactic(auto)]
+
 ghost use Rattle.std.specs.Prelude.{◌≡◌};
 ghost use Rattle.steyrbunk_verdict.specs.Place.{place_settings, place_verdict};
 

@@ -1,4 +1,6 @@
 // What is told of a replay, on standard output.
+#![tactic(auto)]
+
 use libc::STDOUT_FILENO;
 use replay::Walk;
 use vectors::{after_line, part};

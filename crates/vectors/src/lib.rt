@@ -1,5 +1,7 @@
 // What stands in a list of vectors: its numbers, its floats and its parts, whether two numbers differ, and sums of counts. A list is a line of text,
 // then records of big-endian numbers, as tools/judge/README.md says. No read goes past its end.
+#![tactic(auto)]
+
 ghost use Rattle.std.specs.Prelude.{◌≡◌, cond, ◌+◌, ◌≤◌, min, eqb, leb, length};
 ghost use Rattle.std.specs.Float.{binary32};
 ghost use Rattle.std.specs.Float.Ieee.{to_bits};

@@ -1,4 +1,6 @@
 // The verdict on a candidate: the first rule that it fails, the cheapest first, or that it is kept.
+#![tactic(auto)]
+
 mod neighbors;
 
 ghost use Rattle.std.specs.Prelude.{◌≡◌, length};
@@ -11,7 +13,7 @@ use params::RadonDetectorParams;
 use saddle::{Saddle, SaddleTest, accepts};
 use sizes::square_fits;
 
-#[derive(Drop)]
+#[derive(Clone, Copy)]
 pub enum Verdict {
     NotAbove,
     Beaten,
@@ -55,7 +57,7 @@ fn by_saddle(s: Saddle) -> Verdict
 }
 
 // What a scan goes by: the map's sides, the settings, the saddle numbers of their ray radius, and the floor.
-#[derive(Drop)]
+#[derive(Clone, Copy)]
 pub struct Scan {
     pub w: usize,
     pub h: usize,

@@ -1,4 +1,6 @@
 // The view of the map: the response and the working image where they were lent, with the map's sides.
+#![tactic(auto)]
+
 ghost use Rattle.std.specs.Prelude.{◌≡◌};
 ghost use Rattle.places.specs.Places.{place_at, Row};
 ghost use Rattle.view.specs.View.{view_of};
@@ -6,7 +8,7 @@ ghost use Rattle.view.specs.View.{view_of};
 pub use places::{Place, place_at, row_at};
 
 // The response at working resolution and the working image that it was computed from, both lent.
-#[derive(Drop)]
+#[derive(Clone, Copy)]
 pub struct RadonResponseView<'a> {
     pub data: &'a [f32],
     pub image: &'a [u8],

@@ -1,4 +1,6 @@
 // The corner list of a map that is viewed.
+#![tactic(auto)]
+
 ghost use Rattle.std.specs.Prelude.{◌≡◌, length};
 ghost use Rattle.detect.specs.Detected.{peaks_outcome, list_of};
 

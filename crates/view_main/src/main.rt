@@ -1,4 +1,6 @@
 // Reads a map through the view: corners, rows, what is outside, and slices that are too short. Prints what it finds.
+#![tactic(auto)]
+
 use libc::STDOUT_FILENO;
 
 // The map's values are the numbers 1 to 6.

@@ -1,13 +1,13 @@
 -- `scalar::sqrt` meets its contract. Assumes nothing.
-use Rattle.std.proofs.Common.{◌≡◌, ℕ, true, false, T, sym, refl, ap, subst, arith, rules}
+use Rattle.std.proofs.Common.{◌≡◌, ℕ, true, false, T, sym, refl, ap, subst, arith}
 use lib.Ieee.{Float, nan, inf, fin, binary32, fits, ne, to_bits, of_bits}
 use lib.Ieee.Compare.{differs_from_itself}
 use Rattle.scalar.specs.Bits.{from_zero}
 use Rattle.scalar.specs.Root.{root_of, root_bits}
 use Rattle.scalar.specs.declared.Root.TheVariants.{Value, Outside}
 use Rattle.scalar.proofs.Patterns.{from_zero_lem, not_from_zero, no_nan_pattern, no_nan_value}
-use Rattle.scalar.proofs.sqrt.Statement.{statement}
-use Rattle.scalar.proofs.sqrt.Tie as tie
+use Rattle.scalar.proofs.sqrt.Goals.{Start}
+use Rattle.scalar.proofs.sqrt.Goals as goal
 
 outside-nan : (x : Float) → ne x x ≡ true → Outside ≡ root_of x
 unfolding root_of
@@ -28,30 +28,21 @@ outside (fin true m k) p = refl
 outside (fin false m k) p = absurd (subst T p tt)
 
 -- what owning an `f32` tells: the format holds it
-held : (c : tie.Start) → T (fits binary32 c.args.x)
-held c = subst T (sym c.well-formed.0.1) tt
+held : (c : Start) → T (fits binary32 c.args.x)
+held c = subst T (sym c.well_formed.0.1) tt
 
-returns : tie.Need-returns
-returns c = outside-nan c.before.args.x c.if1.true
+pub returns-then-x : goal.returns-then-x
+returns-then-x c = outside-nan c.args.x c.if-x.true
 
-float-to-bits-b : tie.Need-float-to-bits-b
-float-to-bits-b c = no_nan_value c.before.args.x c.if1.false
+pub float_to_bits-b : goal.float_to_bits-b
+float_to_bits-b c = no_nan_value c.args.x c.if-x.false
 
-root-bits-requires : tie.Need-root-bits-requires
-root-bits-requires c κs = search rules
+pub float_from_bits-result : goal.float_from_bits-result
+float_from_bits-result c = no_nan_pattern c.root_bits.result (omega arith)
 
-float-from-bits-t6 : tie.Need-float-from-bits-t6
-float-from-bits-t6 c = no_nan_pattern c.root-bits.result (omega arith)
+pub returns-then-b-lt-INFINITE : goal.returns-then-b-lt-INFINITE
+returns-then-b-lt-INFINITE c =
+    inside c.args.x c.root_bits.result (from_zero_lem c.args.x (held (goal.at.returns-then-b-lt-INFINITE c).Start) c.if-b-lt-INFINITE.true) c.root_bits.ensures.0
 
-returns-2 : tie.Need-returns-2
-returns-2 c =
-    let a = c.before.before.before in
-    inside a.args.x c.root-bits.result (from_zero_lem a.args.x (held a) c.before.if2.true) c.root-bits.ensures.0
-
-returns-3 : tie.Need-returns-3
-returns-3 c = let a = c.before.before in outside a.args.x (not_from_zero a.args.x (held a) c.if2.false)
-
-pub sqrt-spec : {M : Type 1} → statement M
-sqrt-spec =
-    tie.close
-    (tie.spec returns float-to-bits-b root-bits-requires float-from-bits-t6 returns-2 returns-3)
+pub returns-else-b-lt-INFINITE : goal.returns-else-b-lt-INFINITE
+returns-else-b-lt-INFINITE c = c in outside a.args.x (not_from_zero a.args.x (held a) c.if-b-lt-INFINITE.false)
