@@ -45,4 +45,4 @@ returns-then-b-lt-INFINITE c =
     inside c.args.x c.root_bits.result (from_zero_lem c.args.x (held (goal.at.returns-then-b-lt-INFINITE c).Start) c.if-b-lt-INFINITE.true) c.root_bits.ensures.0
 
 pub returns-else-b-lt-INFINITE : goal.returns-else-b-lt-INFINITE
-returns-else-b-lt-INFINITE c = c in outside a.args.x (not_from_zero a.args.x (held a) c.if-b-lt-INFINITE.false)
+returns-else-b-lt-INFINITE c = outside c.args.x (not_from_zero c.args.x (held (goal.at.returns-else-b-lt-INFINITE c).Start) c.if-b-lt-INFINITE.false)
