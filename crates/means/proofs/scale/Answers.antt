@@ -1,0 +1,16 @@
+-- `means::scale` meets its contract: a turn multiplies one entry by the reciprocal. Assumes nothing.
+use mathlib.Core.Path.{refl}
+use Prim.Native.Nat.{◌-◌}
+use native.Mathlib.Omega.{arith}
+use lib.Ieee as ieee
+use Rattle.grid.proofs.Touch.{span_none, span_more, span_all}
+use Rattle.means.proofs.scale.Goals as goal
+
+pub loop-x-init : goal.loop-x-init
+loop-x-init c = span_none _ _ _ _ _ (omega arith)
+
+pub loop-x-preserved : goal.loop-x-preserved
+loop-x-preserved c = span_more _ _ _ _ _ c.loop-x.invariant c.loop-x-test.true refl
+
+pub returns : goal.returns
+returns c = span_all _ _ _ _ _ c.loop-x.invariant c.loop-x-test.false (omega arith)

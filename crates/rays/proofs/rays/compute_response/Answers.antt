@@ -1,0 +1,13 @@
+-- `compute_response`: a turn fills row y. Assumes nothing.
+use mathlib.Core.Path.{refl}
+use Prim.Native.Nat.{◌-◌}
+use Rattle.grid.proofs.Loops.{rows_none}
+use Rattle.grid.proofs.Part.{rows-part}
+use Rattle.rays.proofs.rays.compute_response.Goals as goal
+
+pub loop-y-init : goal.loop-y-init
+loop-y-init c = rows_none _ _ _ _
+
+pub loop-y-preserved : goal.loop-y-preserved
+loop-y-preserved c =
+    rows-part _ _ _ _ refl c.loop-y.invariant c.loop-y-test.true c.compute_response_row.ensures

@@ -1,0 +1,12 @@
+-- `record::reader::fill` meets its contract: a turn stores a number of the record. Assumes nothing.
+use Prim.Native.Nat.{◌-◌}
+use Rattle.grid.proofs.Loops.{line-none, line_more}
+use Rattle.record.specs.Record.{number_in}
+use Rattle.record.proofs.reader.fill.Goals as goal
+
+pub loop-i-init : goal.loop-i-init
+loop-i-init c = line-none _ _ _
+
+pub loop-i-preserved : goal.loop-i-preserved
+loop-i-preserved c =
+    line_more _ _ _ c.loop-i.invariant c.loop-i-test.true c.number_in.ensures
