@@ -1,4 +1,4 @@
--- Steps of the view's proofs: W-as-H is compared with a length without being computed, and each way out of the code is a case of the rules.
+-- Steps of the view's proofs: W·H is compared with a length without being computed, and each way out of the code is a case of the rules.
 -- Assumes nothing.
 use mathlib.Core.Path.{◌≡◌, sym, ◌∙◌}
 use mathlib.Core.Bool.{Bool, true, false, ◌&&◌, and_comm, and-false, true≢false}
