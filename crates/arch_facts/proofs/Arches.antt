@@ -238,7 +238,7 @@ module _ (n : ℕ) (frames : List ℕ) (b c : Buffers) (same : SameLengths b c) 
       → take (written_to n frames b i) (share_left n frames b i) ≡ take (written_to n frames b i) (share_left n frames c i)
   same_shares z i l = (shares_alike n frames b c z same i l).same
 
-  -- the first W-as-H entries of each work buffer, W-as-H being the greatest of the cameras', are the same in both, and those beyond are as they were: of
+  -- the first W·H entries of each work buffer, W·H being the greatest of the cameras', are the same in both, and those beyond are as they were: of
   -- the scratch the greatest of those with a blur (`Writes` has a field for each of the seven)
   pub same_work : Accepted n b
       → Writes (work_reach n frames b) (scratch_reach n frames b) b.map c.map (arch_buffers n frames b).map (arch_buffers n frames c).map

@@ -192,7 +192,7 @@ module _ (frames others : List ℕ) (size n : ℕ) (b : Buffers)
       ∙ (λ k. outcome_for (files i l k) (lent_to size i (left_by_files i (omega arith) k)) (reads i l k))
       ∙ sym (told_is others size b i)
 
--- how far the first i cameras wrote: the greatest W-as-H of them, and the greatest of those that used the scratch
+-- how far the first i cameras wrote: the greatest W·H of them, and the greatest of those that used the scratch
 abbrev pub reach : List ℕ → ℕ → Buffers → ℕ → ℕ
 reach frames size b i = fold max 0 (λ j. area (told frames size b j)) i
 

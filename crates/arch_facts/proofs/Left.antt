@@ -65,7 +65,7 @@ single n frames b i = record { map = work_before n frames b i; list = share_lent
 abbrev pub alone : ℕ → Buffers → ℕ → Buffers
 alone n b i = record { map = b.map; list = share_lent n b i }
 
--- how far the work buffers are written: the greatest W-as-H of the cameras, and for the scratch the greatest of those whose blur radius is not 0. Those
+-- how far the work buffers are written: the greatest W·H of the cameras, and for the scratch the greatest of those whose blur radius is not 0. Those
 -- that are refused are told a W and an H of 0
 abbrev pub work_reach : ℕ → List ℕ → Buffers → ℕ
 work_reach n frames b = fold max 0 (λ i. area (told_to n frames b i)) n

@@ -39,7 +39,7 @@ unfolding scratched
 scratch-long g w h zero old = refl
 scratch-long g w h (suc r) old = length-filled (w * h) _ old
 
--- W-as-H
+-- W·H
 abbrev pub area : Outcome → ℕ
 area o = o.w * o.h
 
@@ -151,7 +151,7 @@ module _ (img : List ℕ) (w h : ℕ) (p : RadonDetectorParams) where
 
 -- ---- that of a file which was read as r
 
--- W-as-H where the scratch is used
+-- W·H where the scratch is used
 abbrev pub blurred_area : Reading → Outcome → ℕ
 blurred_area (Refused a) o = 0
 blurred_area (Frame h) o = in_scratch h.params.response_blur_radius (area o)

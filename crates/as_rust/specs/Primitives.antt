@@ -56,7 +56,7 @@ vert_kernel m scratch-full w h radius y at n dst =
     let inv-n = lit_1 ⊘ count in
     for 0 n (λ i dst. put dst (at + i) (float_at m dst (at + i) ⊗ inv-n)) dst
 
--- 122-220: what `resp` and `scratch` hold at the end. The asserts of 129 and 130 are debug builds'; both lengths are W-as-H (`Sized` of proofs/Map).
+-- 122-220: what `resp` and `scratch` hold at the end. The asserts of 129 and 130 are debug builds'; both lengths are W·H (`Sized` of proofs/Map).
 unfoldable pub box_blur_inplace : Machine → List Float → List Float → ℕ → ℕ → ℕ → List Float × List Float
 box_blur_inplace m resp scratch w h radius =
     cond (eqb radius 0) (resp, scratch)

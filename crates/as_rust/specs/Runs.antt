@@ -18,7 +18,7 @@ use Rattle.as_rust.specs.Primitives.{fit_peak_frac}
 use Rattle.as_rust.specs.Response.{RadonBuffers, view}
 use Rattle.as_rust.specs.Detect.{detect_peaks_from_radon}
 
--- The first n = W-as-H entries of our buffers are the Rust's, which has no more; the tables as numbers; the scratch where there is a blur.
+-- The first n = W·H entries of our buffers are the Rust's, which has no more; the tables as numbers; the scratch where there is a blur.
 pub record SameMap (w h blur : ℕ) (ours : Buffers) (rust : RadonBuffers) : Type 0 where
   pub width : rust.working_w ≡ w
   pub height : rust.working_h ≡ h

@@ -11,14 +11,14 @@ use Rattle.params.specs.Answers.{number_of, refused}
 use Rattle.params.specs.Refusals.{or_else, map_refusal, list_refusal, room_refusal}
 use Rattle.detect.specs.Corners.{corners, verdicts_of, numbers, stride}
 
--- 2 a working side over 8,192, twice the input's 4,096; 4 W-as-H over 8,388,608
+-- 2 a working side over 8,192, twice the input's 4,096; 4 W·H over 8,388,608
 unfoldable pub working_refusal : ℕ → ℕ → Answer
 working_refusal w h =
     cond (ltb 8192 w || ltb 8192 h) SideTooLong
     (cond (ltb 8388608 (w * h)) TooManyPixels
     Complete)
 
--- "The lowest number that applies is given": 2 and 4; 5 and 6, and 7, 8 and 15 as for every call with settings; 9 response or image shorter than W-as-H
+-- "The lowest number that applies is given": 2 and 4; 5 and 6, and 7, 8 and 15 as for every call with settings; 9 response or image shorter than W·H
 unfoldable pub peaks_refusal : ℕ → ℕ → RadonDetectorParams → ℕ → Answer
 unfolding working_refusal map_refusal list_refusal room_refusal
 peaks_refusal w h s room = or_else (working_refusal w h) (or_else (map_refusal s) (or_else (list_refusal w h s) (room_refusal (w * h) room)))

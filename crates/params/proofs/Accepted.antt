@@ -89,7 +89,7 @@ module _ (width height : ℕ) (short : side_over width height ≡ false) where
   pub working-within : {f : ℕ} → f ≤ 2 → (f * width ≤ 8192) × (f * height ≤ 8192)
   working-within two = (mul-le-mul two sides_within.0, mul-le-mul two sides_within.1)
 
-  -- W-as-H is the number that the code has for it
+  -- W·H is the number that the code has for it
   pub pixels_exact : (up : ℕ) {n : ℕ}
       → n ≡ cond (side_over width height) 0 (pixels_of width height up) → n ≡ pixels_of width height up
   pixels_exact up e = rw short at e
@@ -155,7 +155,7 @@ room_passes pixels room e = ltb-false _ _ (past _ _ _ refl e).0
 -- ---- the whole tables
 
 module _ (width height image : ℕ) (p : RadonDetectorParams) (room : ℕ) where
-  -- the stages as the code joins them: what each judge said, and n for W-as-H
+  -- the stages as the code joins them: what each judge said, and n for W·H
   pub stages_are : (list : Answer) {size map lent from_list from-map r : Answer} {n : ℕ}
       → size ≡ size_refusal width height image p.image_upsample → map ≡ map_refusal p
       → n ≡ cond (side_over width height) 0 (pixels_of width height p.image_upsample) → lent ≡ room_refusal n room

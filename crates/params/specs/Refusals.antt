@@ -21,11 +21,11 @@ side_over width height = ltb 4096 width || ltb 4096 height
 abbrev pub working_of : ℕ → ℕ → ℕ
 working_of side up = factor_of up * side
 
--- W-as-H
+-- W·H
 abbrev pub pixels_of : ℕ → ℕ → ℕ → ℕ
 pixels_of width height up = working_of width up * working_of height up
 
--- 2 width or height over 4,096; 3 image length differs from width times height; 4 W-as-H over 8,388,608
+-- 2 width or height over 4,096; 3 image length differs from width times height; 4 W·H over 8,388,608
 unfoldable pub size_refusal : ℕ → ℕ → ℕ → ℕ → Answer
 size_refusal width height image up =
     cond (side_over width height) answer.SideTooLong

@@ -43,7 +43,7 @@ use Rattle.radon.proofs.Left.{entry-range, same-response, byte-most, is_true}
 use Rattle.radon.proofs.Lists.{written_by, room_in, x_of, y_of, strength_of, ListIs, Filtered, Opens}
 use Rattle.radon.proofs.Lists as lists
 
--- W-as-H
+-- W·H
 abbrev pub pixels : ℕ → ℕ → RadonDetectorParams → ℕ
 pixels w h p = side_of w p * side_of h p
 

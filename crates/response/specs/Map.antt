@@ -55,8 +55,8 @@ room_of b =
     (min (min (min (length b.row) (length b.col)) (min (length b.falling) (length b.rising)))
     (min (length b.response) (length b.scratch)))
 
--- "the first W-as-H entries of working image, tables and response are written, those of the scratch too if blur radius and
--- W-as-H are not 0 .. Entries beyond stay."
+-- "the first W·H entries of working image, tables and response are written, those of the scratch too if blur radius and
+-- W·H are not 0 .. Entries beyond stay."
 unfoldable pub mapped_by : ℕ → ℕ → ℕ → (ℕ → ℕ → ℕ) → ℕ → ℕ → Buffers → Buffers
 mapped_by factor ray blur f w h b =
     let W = factor * w in

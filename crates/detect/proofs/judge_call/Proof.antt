@@ -21,7 +21,7 @@ judged c = c.before.before
 abbrev passed : tie.After-judge-room → tie.Else1
 passed c = c.before.before.before
 
--- both sides are small enough that W-as-H is a number of the machine's
+-- both sides are small enough that W·H is a number of the machine's
 sizes : (c : tie.Else1) → ((sized c).before.args.w ≤ 8192) × ((sized c).before.args.h ≤ 8192)
 sizes c = working_passes _ _ (stage_zero _ (sized c).judge-working-size.ensures c.before.number.ensures c.if1.false)
 

@@ -10,7 +10,7 @@ use Rattle.params.proofs.judges.judge_size.Goals as goal
 short : (c : Else-side_over) → side_over c.args.width c.args.height ≡ false
 short c = sym c.side_over.ensures ∙ c.if-side_over.false
 
--- W-as-H, as it was counted
+-- W·H, as it was counted
 counted : (c : After-pixels) →
     let o = c.args in
     c.pixels.result ≡ pixels_of o.width o.height o.up

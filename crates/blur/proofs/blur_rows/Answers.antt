@@ -1,0 +1,17 @@
+-- `blur::blur_rows` meets its contract: a turn fills one row, with the means of the part that is the row. Assumes nothing.
+use Prim.Native.Nat.{◌-◌}
+use Rattle.grid.proofs.Loops.{rows_none}
+use Rattle.grid.proofs.Part.{rows-part}
+use Rattle.blur.specs.Blur.{row_mean}
+use Rattle.blur.proofs.RowParts.{row-part}
+use Rattle.blur.proofs.blur_rows.Goals as goal
+
+pub loop-y-init : goal.loop-y-init
+loop-y-init c = rows_none _ _ _ _
+
+pub loop-y-preserved : goal.loop-y-preserved
+loop-y-preserved c =
+    let at = c.row_start-i.ensures.0 in
+    let row = row-part c.args.resp.now c.loop-y.scratch c.loop-y.y _ c.requires c.loop-y.invariant.long
+    at c.row_start-i.ensures.1 c.row_means.ensures in
+    rows-part _ _ _ _ at c.loop-y.invariant c.loop-y-test.true row
