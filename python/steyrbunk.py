@@ -2,7 +2,8 @@
 
 Build the shared library once, from the repository's root, after the static one (docs/USING.md):
 
-    cc -shared -o target/libsteyrbunk.so -Wl,--whole-archive target/staticlib/libsteyrbunk_c.a -Wl,--no-whole-archive
+    mkdir -p target
+    cc -shared -o target/libsteyrbunk.so -Wl,--whole-archive crates/steyrbunk_c/out/libsteyrbunk_c.a -Wl,--no-whole-archive
 
 Then
 

@@ -5,8 +5,8 @@ use std::path::PathBuf;
 
 /// Names the folder of the archive; a path from the package if relative.
 const VARIABLE: &str = "STEYRBUNK_PASSES";
-/// Where `tools/passes target/passes` leaves it.
-const DEFAULT: &str = "../../target/passes/target/staticlib";
+/// Where `tools/passes ../passes` leaves it, beside the repository.
+const DEFAULT: &str = "../../../passes";
 const ARCHIVE: &str = "libpasses.a";
 
 fn main() {

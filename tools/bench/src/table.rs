@@ -80,7 +80,7 @@ impl Row {
 pub fn close(passes: bool) {
     println!();
     if !passes {
-        println!("The single passes are left out: build them by tools/passes target/passes, then bench again.");
+        println!("The single passes are left out: build them by tools/passes ../passes, then bench again.");
     }
     println!("A working pixel is one after upsampling. Ratios above 1 mean that ours is faster. The copy reads and");
     println!("writes half of the bytes moved each, so that it moves as many.");

@@ -30,9 +30,9 @@ Each camera of an arch must be told and given what a single call with its frame 
 that call is held against the Rust; a tenth of the frames are damaged, and some arches are cut, state
 lengths past their end or have bytes behind them.
 
-  --program PATH   runs the proved program `corners` too, which `rt check corners` leaves in
-                   target/bin/corners: what it prints must be the Rust's list as document 01 has it
-                   printed, or the refusal, 9 and 10 of its own room among them
+  --program PATH   runs the proved program `corners` too, which `rt run` in crates/corners leaves in
+                   crates/corners/out/corners: what it prints must be the Rust's list as document 01
+                   has it printed, or the refusal, 9 and 10 of its own room among them
   --damaged        every second made file is damaged
   --max-side M     made frames with sides up to M; without it they have the program's size
   --bound B        the bound for Gaussian places (default 4e-6)

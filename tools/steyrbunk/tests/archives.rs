@@ -10,41 +10,66 @@ mod build;
 const FINDER: &str = "libsteyrbunk_c.a";
 const VERDICT: &str = "libsteyrbunk_verdict.a";
 
-/// A folder with these archives alone.
-fn folder(name: &str, archives: &[&str]) -> PathBuf {
+/// An empty folder.
+fn folder(name: &str) -> PathBuf {
     let folder = Path::new(env!("CARGO_TARGET_TMPDIR")).join(name);
     let _ = fs::remove_dir_all(&folder);
     fs::create_dir_all(&folder).expect("made");
-    for archive in archives {
-        fs::write(folder.join(archive), b"").expect("written");
-    }
     folder
 }
 
+fn written(archive: PathBuf) {
+    fs::create_dir_all(archive.parent().expect("a folder")).expect("made");
+    fs::write(archive, b"").expect("written");
+}
+
 /// The two lines on one archive.
-fn told(folder: &Path, archive: &str, library: &str) -> String {
-    let path = folder.join(archive);
+fn told(path: &Path, library: &str) -> String {
     format!(
         "{} is not there. Build it from the repository's root:\n  \
-         tools/native-kit target/kit && RATTLE_HOME=$PWD/target/kit rt staticlib {library}\n",
+         (cd crates/{library} && rt lib)\n",
         path.display()
     )
 }
 
+fn or() -> String {
+    format!("or set STEYRBUNK_LIB to the folder that holds {FINDER} and {VERDICT}.\n")
+}
+
 #[test]
 fn what_is_missing_is_told_with_the_line_that_builds_it() {
-    let or = format!("or set STEYRBUNK_LIB to the folder that holds {FINDER} and {VERDICT}.\n");
-    let both = folder("both", &[FINDER, VERDICT]);
-    assert_eq!(build::missing(&both), None);
-    // As it is where only the finder was built, which was enough before 0.4.0.
-    let one = folder("one", &[FINDER]);
-    let verdict = told(&one, VERDICT, "steyrbunk_verdict");
-    assert_eq!(build::missing(&one), Some(format!("{verdict}{or}")));
-    let none = folder("none", &[]);
+    let nowhere = Path::new("/nowhere");
+    let named = folder("named");
+    let missing = || build::missing(Some(&named), nowhere);
     let all = [
-        told(&none, FINDER, "steyrbunk_c"),
-        told(&none, VERDICT, "steyrbunk_verdict"),
-        or,
+        told(&named.join(FINDER), "steyrbunk_c"),
+        told(&named.join(VERDICT), "steyrbunk_verdict"),
+        or(),
     ];
-    assert_eq!(build::missing(&none), Some(all.concat()));
+    assert_eq!(missing(), Some(all.concat()));
+    // As it is where only the finder was built, which was enough before 0.4.0.
+    written(named.join(FINDER));
+    let verdict = told(&named.join(VERDICT), "steyrbunk_verdict");
+    assert_eq!(missing(), Some(format!("{verdict}{}", or())));
+    written(named.join(VERDICT));
+    assert_eq!(missing(), None);
+}
+
+#[test]
+fn without_the_variable_each_lies_in_its_crate() {
+    let crates = folder("crates");
+    let finder = crates.join("steyrbunk_c/out").join(FINDER);
+    let verdict = crates.join("steyrbunk_verdict/out").join(VERDICT);
+    let missing = || build::missing(None, &crates);
+    let all = [
+        told(&finder, "steyrbunk_c"),
+        told(&verdict, "steyrbunk_verdict"),
+        or(),
+    ];
+    assert_eq!(missing(), Some(all.concat()));
+    written(verdict);
+    let finder_alone = told(&finder, "steyrbunk_c");
+    assert_eq!(missing(), Some(format!("{finder_alone}{}", or())));
+    written(finder);
+    assert_eq!(missing(), None);
 }
