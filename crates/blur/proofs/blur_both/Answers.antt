@@ -15,21 +15,19 @@ returns-then-radius-eq0-clause-scratch_after c =
     let z = c.if-radius-eq0.true in
     scratch-none _ p.w p.h p.radius p.scratch.now z
 
--- FIX: step if1 at After-slice_known2?
 pub returns-clause-resp_after : goal.returns-clause-resp_after
 returns-clause-resp_after c =
     let p = c.args in
-    let n = c.if1.false in
+    let n = c.if-radius-eq0.false in
     let g = value_at p.resp.now p.w in
     let first = c.blur_rows.ensures in
     let second = c.blur_columns.ensures in
     blur_some p.w p.h p.radius n g p.scratch.now p.resp.now c.requires.target first second
 
--- FIX: step if1 at After-slice_known2?
 pub returns-clause-scratch_after : goal.returns-clause-scratch_after
 returns-clause-scratch_after c =
     let p = c.args in
-    let n = c.if1.false in
+    let n = c.if-radius-eq0.false in
     let g = value_at p.resp.now p.w in
     let first = c.blur_rows.ensures in
     let second = c.blur_columns.ensures in

@@ -16,7 +16,7 @@ answer c = positives (value c.args.resp.now c.args.w) c.args.r (place c.args.x c
 -- the centre was counted
 one_more : (c : Then-v) → c.positive_in_window-count.result ≡ (positives (value c.args.resp.now c.args.w) c.args.r (place c.args.x c.args.y)) + 1
 one_more c =
-    positives_more _ c.args.r c.args.x c.args.y c.requires.0.false c.requires.0.above
+    positives_more _ c.args.r c.args.x c.args.y c.requires.0.left c.requires.0.above
     c.positive_in_window-count.ensures (rw c.requires.1 at c.if-v.true)
 
 pub overflow_sub-result : goal.overflow_sub-result
@@ -27,5 +27,5 @@ returns-then-v c = omega (arith, one_more c)
 
 pub returns-else-v : goal.returns-else-v
 returns-else-v c =
-    positives-same _ c.args.r c.args.x c.args.y c.requires.0.false c.requires.0.above
+    positives-same _ c.args.r c.args.x c.args.y c.requires.0.left c.requires.0.above
     c.positive_in_window-count.ensures (rw c.requires.1 at c.if-v.false)
