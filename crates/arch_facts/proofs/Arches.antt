@@ -1,5 +1,5 @@
 -- Document 02's ticket 2 as theorems. They speak of what a call for an arch tells and leaves: by its contract `run_arch` answers
--- `arch_outcome n frames b` and leaves the buffers `arch_buffers n frames b` (arch/specs/Arch), for every camera count n, every slice `frames` and All
+-- `arch_outcome n frames b` and leaves the buffers `arch_buffers n frames b` (arch/specs/Arch), for every camera count n, every slice `frames` and all
 -- buffers b. Left.antt names what is told and left: of camera i, counted from 0, `told_to`, `share_left`, and `single`, what the like single call is
 -- lent. Assumes nothing.
 use mathlib.Core.Path.{◌≡◌, refl, sym, ap, ◌∙◌}
@@ -160,7 +160,7 @@ module _ (n : ℕ) (frames : List ℕ) (b : Buffers) (accepted : Accepted n b) w
   pub entries_beyond : (i : ℕ) → n ≤ i → i < 8 → told_to n frames b i ≡ no_frame
   entries_beyond = told_beyond n frames b accepted
 
--- All others are whole: a frame with the five bytes and its stated length
+-- all others are whole: a frame with the five bytes and its stated length
 pub whole_frame : (frames : List ℕ) (i : ℕ) → let rest = rest_at frames i in
     5 ≤ length rest → 5 + word_at rest 1 ≤ length rest → WholeAt frames i (5 + word_at rest 1) (take (5 + word_at rest 1) rest)
 whole_frame frames i five fits = record { due = sym (lies_whole (rest_at frames i) refl five (omega arith)); is = refl }
@@ -188,7 +188,7 @@ module _ (files : List (List ℕ)) (stated : All Stated files) where
 -- ---- 3. Demand 1. "Bad input gets a numbered refusal, a count of zero and untouched buffers. What a buffer held before the call changes no answer
 -- and no written number."
 
--- "Refusals: 21, a camera count not 2 to 8 or a list too short for one corner a camera, before any frame is read: All counts 0, no buffer changed."
+-- "Refusals: 21, a camera count not 2 to 8 or a list too short for one corner a camera, before any frame is read: all counts 0, no buffer changed."
 pub accepted_where : (n : ℕ) (b : Buffers) → Takes n (length b.list) → Accepted n b
 unfolding arch_refusal
 accepted_where n b t = rw (le-ltb n 2 t.two, le-ltb 8 n t.eight, le-ltb (length b.list / stride) n t.corner)
@@ -207,7 +207,7 @@ module _ (n : ℕ) (frames : List ℕ) (b : Buffers) where
   pub own_answer : Accepted n b → (arch_outcome n frames b).answer ≡ Complete
   own_answer z = ap (λ (o : ArchOutcome). o.answer) (outcome_is n frames b z)
 
-  -- "A refused frame stops nobody": a camera with an answer above 1 is told zeros, and leaves All as it was
+  -- "A refused frame stops nobody": a camera with an answer above 1 is told zeros, and leaves all as it was
   pub refused_camera_leaves_all : (z : Accepted n b) (i : ℕ) → i < n → 1 < number_of (told_to n frames b i).answer
       → LeavesAll n frames b i (told_to n frames b i).answer
   refused_camera_leaves_all z i l above =
@@ -312,7 +312,7 @@ module _ {n : ℕ} {frames : List ℕ} {b : Buffers} {i : ℕ} {img : List ℕ} 
 -- camera i of one call and camera j of another, or of the same one
 module _ (n : ℕ) (frames : List ℕ) (b : Buffers) (i : ℕ) (m : ℕ) (others : List ℕ) (c : Buffers) (j : ℕ) (w h : ℕ) (p : RadonDetectorParams) where
   -- "The higher setting's list is exactly those of the lower's corners that pass the higher floor and count, in order, bits unchanged.", with room
-  -- in both shares for All corners of the lower
+  -- in both shares for all corners of the lower
   pub higher_setting_by_frame : (img : List ℕ) (t : Float) (least : ℕ) → Reads n frames b i img w h p → Reads m others c j img w h (raised p t least)
       → T (le p.threshold_rel t) → p.min_cluster_size ≤ least
       → (told_to n frames b i).count ≤ size n b / stride → (told_to n frames b i).count ≤ size m c / stride

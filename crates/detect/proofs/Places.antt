@@ -78,7 +78,7 @@ input_ranged up side c offset m a b o =
 abbrev pub f4096 : Float
 f4096 = of_bits binary32 0x4580_0000
 
--- All three are finite, and the place lies on the frame, whose sides are at most 4,096
+-- all three are finite, and the place lies on the frame, whose sides are at most 4,096
 pub record OnFrame (w h : ℕ) (x y strength : Float) : Type 0 where
   pub x_finite : T (finite x)
   pub y_finite : T (finite y)

@@ -1,21 +1,20 @@
 -- How a record is put into an output: its head, number by number, and both together. Assumes nothing.
-use mathlib.Core.Path.{◌≡◌, refl, sym, ap, ◌∙◌}
+use mathlib.Core.Path.{◌≡◌, refl, ap, ◌∙◌}
 use mathlib.Core.List.{List, [], ◌∷◌, ◌++◌}
 use Prim.Native.Nat.{ℕ, suc, ◌+◌, ◌*◌, ◌≤◌, ◌<◌}
 use native.Mathlib.Nat.{add-zero}
 use native.Mathlib.Numerals.{add-one}
 use native.Mathlib.Omega.{arith}
 use lib.Ieee.{Float, nan, binary32, to_bits}
-use lib.ListN.{length, get_or, set, take, length-set, length-take}
-use lib.Seq.{sets, length-sets, take-suc, length-take-le}
-use Rattle.grid.specs.Each.{each}
+use lib.ListN.{length, get_or, set, take, length-set}
+use lib.Seq.{sets, take-suc, length-take-le}
 use Rattle.grid.specs.Over.{over}
 use Rattle.grid.proofs.Each.{each_none, each_more, length-each}
 use Rattle.grid.proofs.Over.{over_none, over_sets}
 use Rattle.grid.proofs.Loops.{Steps, steps_all}
 use Rattle.big_endian.specs.BigEndian.{half_bytes, word_bytes, put_at}
 use Rattle.big_endian.proofs.Fits.{put_plain, length-put}
-use Rattle.record.specs.Record.{head, head_of, following, corners_in, whole_of, bytes_of, record_of}
+use Rattle.record.specs.Record.{head, head_of, corners_in, whole_of, bytes_of, record_of}
 
 -- ---- runs of stores
 

@@ -1,7 +1,7 @@
 -- Which numbers are finite, and the search for one that is not, along a list and along a record. Assumes nothing.
 use mathlib.Core.Path.{◌≡◌, refl, sym, ap, ◌∙◌}
 use mathlib.Core.Bool.{Bool, true, false, not}
-use mathlib.Core.List.{List, [], ◌∷◌, ◌++◌}
+use mathlib.Core.List.{List}
 use Prim.Native.Nat.{ℕ, suc, ◌+◌, ◌≤◌, ◌<◌}
 use native.Mathlib.Numerals.{add-one}
 use native.Mathlib.Omega.{arith}
@@ -9,7 +9,7 @@ use lib.Dec.{T}
 use lib.Ieee.{Float, nan, inf, fin, binary32, of_bits, nan_bits, lt}
 use lib.Ieee.Scale.{finite}
 use lib.ListN.{length, get_or, take, drop, length-take}
-use lib.Seq.{take-suc, take-take, get_or-take, split_at}
+use lib.Seq.{take-suc, get_or-take, split_at}
 use Rattle.grid.specs.Each.{any}
 use Rattle.grid.specs.Rect.{range}
 use Rattle.grid.proofs.Each.{any_none, any_no, any_yes}

@@ -1,4 +1,4 @@
--- `means::column_fits_lem` meets its contract: the map, then the row and its room. Assumes nothing.
+-- `means::column_fits` meets its contract: the map, then the row and its room. Assumes nothing.
 use mathlib.Core.Path.{sym, ◌∙◌}
 use borrow.Author.Tests.{lt-ltb, le-ltb}
 use Rattle.means.specs.Means.{column_fits}

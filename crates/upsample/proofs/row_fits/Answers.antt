@@ -1,4 +1,4 @@
--- `upsample::row_fits_lem` meets its contract: an image that fits has no working side that is too long to count. Assumes nothing.
+-- `upsample::row_fits` meets its contract: an image that fits has no working side that is too long to count. Assumes nothing.
 use mathlib.Core.Path.{sym, ◌∙◌}
 use native.Mathlib.Omega.{arith}
 use borrow.Author.Tests.{lt-ltb, le-ltb}

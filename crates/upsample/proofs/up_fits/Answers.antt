@@ -1,4 +1,4 @@
--- `upsample::up_fits_lem` meets its contract: an image that fits has no working side that is too long to count. Assumes nothing.
+-- `upsample::up_fits` meets its contract: an image that fits has no working side that is too long to count. Assumes nothing.
 use mathlib.Core.Path.{sym, ◌∙◌}
 use native.Mathlib.Omega.{arith}
 use Rattle.upsample.specs.Upsample.{up_fits}

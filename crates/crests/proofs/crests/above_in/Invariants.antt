@@ -1,4 +1,4 @@
--- `crests::crests::above_in_lem` meets its contract. The invariant counts the entries passed. Assumes nothing.
+-- `crests::crests::above_in` meets its contract. The invariant counts the entries passed. Assumes nothing.
 use mathlib.Core.Path.{◌≡◌}
 use Prim.Native.Nat.{◌-◌, ◌≤◌}
 use Rattle.grid.specs.Each.{count}

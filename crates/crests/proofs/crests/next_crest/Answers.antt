@@ -12,6 +12,6 @@ pub loop-k-preserved : goal.loop-k-preserved
 loop-k-preserved c =
     elim c.if-s-k.branch [
       | then-s-k+else-is_crest w ↦
-        rw w.above-is (went_above _ _ _ _ c.loop-k.invariant (omega arith) w.is_crest.ensures w.if-is_crest.false w.if-s-k.true)
+          rw w.above-is (went_above _ _ _ _ c.loop-k.invariant (omega arith) w.is_crest.ensures w.if-is_crest.false w.if-s-k.true)
       | else-s-k w ↦ rw w.above-is (went_under _ _ _ _ c.loop-k.invariant (omega arith) w.if-s-k.false)
     ]

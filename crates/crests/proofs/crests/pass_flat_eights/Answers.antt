@@ -15,6 +15,6 @@ pub loop-i-preserved : goal.loop-i-preserved
 loop-i-preserved c =
     elim c.if-eight_above.branch [
       | then-eight_above+else-eight_crests w ↦
-        rw w.above-is (went_slope _ _ _ _ c.loop-i.invariant (omega arith) (omega arith) w.eight_crests.ensures w.if-eight_crests.false w.above_in.ensures)
+          rw w.above-is (went_slope _ _ _ _ c.loop-i.invariant (omega arith) (omega arith) w.eight_crests.ensures w.if-eight_crests.false w.above_in.ensures)
       | else-eight_above w ↦ rw w.above-is (went_low _ _ _ _ c.loop-i.invariant (omega arith) c.eight_above.ensures w.if-eight_above.false)
     ]

@@ -1,5 +1,4 @@
 -- `lines::text::append` meets its contract: so many bytes of the text are copied. Assumes nothing.
-use Prim.Native.Nat.{◌-◌}
 use native.Mathlib.Omega.{arith}
 use Rattle.lines.proofs.Appended.{copied_none, copied_len, copied_more}
 use Rattle.lines.proofs.text.append.Goals as goal

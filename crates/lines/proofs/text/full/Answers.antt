@@ -1,4 +1,4 @@
--- `lines::text::full` meets its contract Assumes nothing.
+-- `lines::text::full` meets its contract. Assumes nothing.
 use lib.Dec.{lit≤}
 use Rattle.lines.specs.Printed.{full_line, row}
 use Rattle.lines.proofs.Appended.{grown, shown}

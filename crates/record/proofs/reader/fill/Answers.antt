@@ -1,7 +1,5 @@
 -- `record::reader::fill` meets its contract: a turn stores a number of the record. Assumes nothing.
-use Prim.Native.Nat.{◌-◌}
 use Rattle.grid.proofs.Loops.{line-none, line_more}
-use Rattle.record.specs.Record.{number_in}
 use Rattle.record.proofs.reader.fill.Goals as goal
 
 pub loop-i-init : goal.loop-i-init

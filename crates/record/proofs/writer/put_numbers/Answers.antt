@@ -1,5 +1,4 @@
 -- `record::writer::put_numbers` meets its contract: a turn puts a number behind those before it. Assumes nothing.
-use Prim.Native.Nat.{◌-◌}
 use Rattle.record.proofs.Puts.{putting_none, putting_more}
 use Rattle.record.proofs.writer.put_numbers.Goals as goal
 
