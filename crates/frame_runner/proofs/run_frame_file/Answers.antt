@@ -11,17 +11,17 @@ buffers c =
     c.args.response.now c.args.scratch.now c.args.list.now
 
 pub returns-in-Refused-clause-answer : goal.returns-in-Refused-clause-answer
-returns-in-Refused-clause-answer c = (when_refused c.args.limit c.args.file.now (buffers (goal.at.returns-in-Refused-clause-answer c).Start) c.read-reading.ensures _ c.reading-1.given.1 c.refusal.ensures).0
+returns-in-Refused-clause-answer c = (when_refused c.args.limit c.args.file.now (buffers (goal.at.returns-in-Refused-clause-answer c).Start) c.read-reading.ensures _ c.in-Refused.is c.refusal.ensures).0
 
 pub returns-in-Refused-clause-buffers : goal.returns-in-Refused-clause-buffers
-returns-in-Refused-clause-buffers c = (when_refused c.args.limit c.args.file.now (buffers (goal.at.returns-in-Refused-clause-buffers c).Start) c.read-reading.ensures _ c.reading-1.given.1 c.refusal.ensures).1
+returns-in-Refused-clause-buffers c = (when_refused c.args.limit c.args.file.now (buffers (goal.at.returns-in-Refused-clause-buffers c).Start) c.read-reading.ensures _ c.in-Refused.is c.refusal.ensures).1
 
 pub returns-in-Frame-clause-answer : goal.returns-in-Frame-clause-answer
 returns-in-Frame-clause-answer c =
     (when_read c.args.limit c.args.file.now (buffers (goal.at.returns-in-Frame-clause-answer c).Start) c.read-reading.ensures c.pixels.result.now _
-    c.reading-in-Frame-1.given.1 c.pixels.ensures.values c.radon_corners_u8.ensures.answer c.radon_corners_u8.ensures.buffers).0
+    c.in-Frame.is c.pixels.ensures.values c.radon_corners_u8.ensures.answer c.radon_corners_u8.ensures.buffers).0
 
 pub returns-in-Frame-clause-buffers : goal.returns-in-Frame-clause-buffers
 returns-in-Frame-clause-buffers c =
     (when_read c.args.limit c.args.file.now (buffers (goal.at.returns-in-Frame-clause-buffers c).Start) c.read-reading.ensures c.pixels.result.now _
-    c.reading-in-Frame-1.given.1 c.pixels.ensures.values c.radon_corners_u8.ensures.answer c.radon_corners_u8.ensures.buffers).1
+    c.in-Frame.is c.pixels.ensures.values c.radon_corners_u8.ensures.answer c.radon_corners_u8.ensures.buffers).1
