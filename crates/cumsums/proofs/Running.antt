@@ -6,7 +6,6 @@ use Prim.Native.Nat.{ℕ, ◌+◌, ◌-◌, ◌*◌, ◌≤◌, ◌<◌, min}
 use native.Mathlib.Nat.{mul_comm, eq-zero-or-pos}
 use native.Mathlib.Omega.{arith}
 use lib.ListN.{length, get_or}
-use Rattle.grid.specs.Fill.{filled}
 use Rattle.grid.proofs.Fill.{length-fill, getD_filled}
 use Rattle.grid.specs.Plane.{plane}
 use Rattle.grid.proofs.Plane.{row_in, next_row, row-above, column_in, row-number_in}

@@ -7,7 +7,7 @@ use Prim.Native.Nat.{ℕ, ◌≤◌, ◌<◌}
 use native.Mathlib.Omega.{arith}
 use borrow.Author.Tests.{lt-ltb, le-ltb, eq-eqb, ne_eqb}
 use lib.Dec.{eqb}
-use lib.Ieee.{Float, binary32, of_bits}
+use lib.Ieee.{binary32, of_bits}
 use lib.ListN.{length}
 use Rattle.big_endian.specs.BigEndian.{byte_at, half_at, word_at}
 use Rattle.params.specs.declared.answers.Answer.{Answer}

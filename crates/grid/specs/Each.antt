@@ -1,6 +1,6 @@
 -- `each f l`: f of every entry of l, one after the other. A filter, a row of places and a list of numbers are each an `each`, so `each_append` serves
 -- them all: what a loop has gathered is, one entry later, the same with f of that entry behind it. Assumes nothing.
-use Rattle.std.specs.Prelude.{Bool, true, false, ◌||◌, ℕ, ◌+◌, List, [], ◌∷◌, ◌++◌, length}
+use Rattle.std.specs.Prelude.{Bool, true, false, ◌||◌, ℕ, List, [], ◌∷◌, ◌++◌, length}
 
 module _ {A B : Type 0} where
   unfoldable pub each : (A → List B) → List A → List B

@@ -2,7 +2,7 @@
 -- `for y in ay..ey { for x in ax..ex { .. } }` has passed `rect ax ex ay y` at the head of the outer loop and `before
 -- ax ex ay x y` at that of the inner:
 -- `Down` and `Across` are their invariants over any state. Assumes nothing.
-use Rattle.std.specs.Prelude.{ℕ, zero, suc, ◌+◌, ◌-◌, List, [], ◌∷◌}
+use Rattle.std.specs.Prelude.{ℕ, zero, suc, ◌-◌, List, [], ◌∷◌}
 use Rattle.grid.specs.Each.{each}
 
 pub record Place : Type 0 where

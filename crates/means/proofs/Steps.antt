@@ -7,7 +7,6 @@ use native.Mathlib.Decide.{dec_le}
 use native.Mathlib.Omega.{arith}
 use mathlib.Core.List.{List, ◌++◌}
 use lib.ListN.{length, get_or, take, drop, length-take, length-drop}
-use lib.Seq.{get_or-take, get_or-drop}
 use lib.IntN.{pos}
 use lib.Ieee.{Float, nan, binary32, add, mul, div, of_int}
 use Rattle.float.specs.Values.{f0, f1}

@@ -3,10 +3,9 @@ use mathlib.Core.Path.{◌≡◌, refl, sym, ap, ◌∙◌}
 use mathlib.Core.Bool.{Bool, true, false, ◌||◌, cond, true≢false}
 use Prim.Native.Nat.{ℕ, ◌*◌, ◌≤◌, ◌<◌}
 use native.Mathlib.Nat.{mul-le-mul}
-use native.Mathlib.Omega.{arith}
 use borrow.Author.Tests.{le-ltb, ltb-false, leb-false, eqb-true, eq-eqb, ne_eqb, not-false}
-use lib.Dec.{T, ltb, eqb}
-use lib.Ieee.{Float, lt, le, is_nan, of_bits}
+use lib.Dec.{T, eqb}
+use lib.Ieee.{le, is_nan, of_bits}
 use Rattle.float.specs.Values.{f0, f1}
 use Rattle.float.proofs.Order.{le_of_not_lt}
 use Rattle.params.specs.declared.answers.Answer.{Answer}

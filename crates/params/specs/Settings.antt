@@ -1,6 +1,6 @@
 -- Document 01, "Settings and sizes": what a factor or radius counts as, the mode by its number, and the defaults, with document 02's
 -- seventh request; and the border of "Rules of the list", by which frames are judged too small.
-use Rattle.std.specs.Prelude.{cond, ℕ, ◌+◌, max, min, eqb, Float}
+use Rattle.std.specs.Prelude.{cond, ℕ, ◌+◌, max, min, eqb}
 use Rattle.std.specs.Float.{binary32}
 use Rattle.std.specs.Float.Ieee.{of_bits}
 use Rattle.params.specs.declared.settings.PeakFitMode.TheVariants.{Parabolic, Gaussian}

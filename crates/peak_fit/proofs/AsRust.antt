@@ -2,11 +2,11 @@
 -- and no NaN comes to it. Assumes nothing.
 use mathlib.Core.Path.{◌≡◌, refl, sym, subst}
 use mathlib.Core.Bool.{Bool, true, false, not, cond, ◌&&◌}
-use Prim.Native.Nat.{ℕ, ◌*◌, ◌^◌, ◌≤◌}
+use Prim.Native.Nat.{◌*◌, ◌^◌}
 use native.Mathlib.Nat.{zero-mul}
 use native.Mathlib.Omega.{arith}
 use borrow.Author.Tests.{eqb-true}
-use lib.Dec.{T, ltb, eqb, lit≤, lt→ltb, ltb→lt}
+use lib.Dec.{T, eqb, lit≤, lt→ltb, ltb→lt}
 use lib.IntN.{ℤ}
 use lib.Ieee.{Float, nan, inf, fin, up, down, binary32, fits, of_bits, is_nan, sub, mul, div, lt, le}
 use lib.Ieee.Fits.{and_l, and_r, down_pos}

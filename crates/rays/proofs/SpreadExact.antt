@@ -3,7 +3,7 @@
 use mathlib.Core.Path.{◌≡◌, refl, ap, ◌∙◌}
 use mathlib.Core.Logic.{◌⊎◌, inl, inr}
 use mathlib.Core.Bool.{Bool, true, false, cond}
-use Prim.Native.Nat.{ℕ, ◌+◌, ◌-◌, ◌*◌, ◌^◌, ◌≤◌}
+use Prim.Native.Nat.{ℕ, ◌+◌, ◌*◌, ◌^◌, ◌≤◌}
 use native.Mathlib.Nat.{le_trans, max-le, sub-le, mul-le-mul, mul-pos, eq-zero-or-pos}
 use native.Mathlib.Omega.{arith}
 use lib.Dec.{lit≤}
@@ -15,7 +15,7 @@ use Rattle.float.specs.Values.{f0}
 use Rattle.float.proofs.Whole.{mul_whole}
 use Rattle.grid.specs.Ways.{Way, along, down, fall, rise, ray}
 use Rattle.grid.proofs.Ways.{ray-most}
-use Rattle.rays.specs.Response.{spread, ray_spread, square, within, response_at}
+use Rattle.rays.specs.Response.{ray_spread, square, within, response_at}
 
 -- the spread of four rays
 pub spread-most : (f : ℕ → ℕ → ℕ) (top r x y : ℕ) → ((x y : ℕ) → f x y ≤ top) → ray_spread f r x y ≤ top * (2 * r + 1)

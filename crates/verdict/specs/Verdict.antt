@@ -1,13 +1,13 @@
 -- Document 01, "Rules of the list": the verdict on a candidate.
 -- A map f and an image g are functions: f x y and g x y are what column x of row y has.
-use Rattle.std.specs.Prelude.{Bool, true, false, not, cond, ℕ, leb, eqb, Float}
+use Rattle.std.specs.Prelude.{Bool, true, false, not, ℕ, leb, eqb, Float}
 use Rattle.std.specs.Float.Ieee.{lt}
-use Rattle.grid.specs.Rect.{Place, place}
+use Rattle.grid.specs.Rect.{Place}
 use Rattle.params.specs.declared.settings.RadonDetectorParams.{RadonDetectorParams}
 use Rattle.params.specs.Settings.{ray_of}
 use Rattle.saddle.specs.declared.Saddle.{Saddle}
 use Rattle.saddle.specs.declared.Saddle.TheVariants.{Yes, Flat, Curved}
-use Rattle.saddle.specs.Saddle.{saddle_of, saddle_at, disk_fits}
+use Rattle.saddle.specs.Saddle.{saddle_of, saddle_at}
 use Rattle.verdict.specs.declared.Verdict.{Verdict}
 use Rattle.verdict.specs.declared.Verdict.TheVariants.{NotAbove, Beaten, TooFew, TooFlat, WrongCurvature, Kept}
 use Rattle.verdict.specs.Window.{at, beaten, positives}

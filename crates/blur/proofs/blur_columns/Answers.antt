@@ -1,8 +1,6 @@
 -- `blur::blur_columns` meets its contract: a turn fills one row. Assumes nothing.
-use Prim.Native.Nat.{◌-◌}
 use Rattle.grid.proofs.Loops.{rows_none}
 use Rattle.grid.proofs.Part.{rows-part}
-use Rattle.means.specs.Means.{column_mean}
 use Rattle.blur.proofs.RowParts.{column_part}
 use Rattle.blur.proofs.blur_columns.Goals as goal
 

@@ -1,5 +1,4 @@
 -- `blur::blur_columns` meets its contract: a turn fills one row. Assumes nothing.
-use Prim.Native.Nat.{◌-◌}
 use Rattle.grid.proofs.Loops.{Rows}
 use Rattle.means.specs.Means.{value_at, column_mean}
 use Rattle.blur.proofs.blur_columns.Given as goal

@@ -1,8 +1,6 @@
 -- `blur::blur_rows` meets its contract: a turn fills one row, with the means of the part that is the row. Assumes nothing.
-use Prim.Native.Nat.{◌-◌}
 use Rattle.grid.proofs.Loops.{rows_none}
 use Rattle.grid.proofs.Part.{rows-part}
-use Rattle.blur.specs.Blur.{row_mean}
 use Rattle.blur.proofs.RowParts.{row-part}
 use Rattle.blur.proofs.blur_rows.Goals as goal
 

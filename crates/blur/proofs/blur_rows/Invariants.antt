@@ -1,5 +1,4 @@
 -- `blur::blur_rows` meets its contract: a turn fills one row, with the means of the part that is the row. Assumes nothing.
-use Prim.Native.Nat.{◌-◌}
 use Rattle.grid.proofs.Loops.{Rows}
 use Rattle.means.specs.Means.{value_at}
 use Rattle.blur.specs.Blur.{row_mean}

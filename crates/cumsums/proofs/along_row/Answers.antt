@@ -1,5 +1,4 @@
 -- `along_row`: a turn adds a pixel to the row's sum so far, and stores it. Assumes nothing.
-use Prim.Native.Nat.{◌-◌}
 use native.Mathlib.Omega.{arith}
 use Rattle.grid.proofs.Loops.{row_more}
 use Rattle.cumsums.proofs.Running.{row-start, carried_none, carried_more, carried_fits}

@@ -1,5 +1,4 @@
 -- `along_row`: a turn adds a pixel to the row's sum so far, and stores it. Assumes nothing.
-use Prim.Native.Nat.{◌-◌}
 use Rattle.grid.specs.Ways.{along}
 use Rattle.cumsums.proofs.Running.{Filling, Carried}
 use Rattle.cumsums.proofs.along_row.Given as goal

@@ -1,6 +1,5 @@
 -- `begin`: a turn stores the pixel that it reads. Assumes nothing.
 use mathlib.Core.Path.{refl}
-use Prim.Native.Nat.{◌-◌}
 use Rattle.grid.proofs.Span.{spanning_none, spanning_more}
 use Rattle.cumsums.proofs.begin.Goals as goal
 

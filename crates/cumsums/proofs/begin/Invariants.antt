@@ -1,5 +1,4 @@
 -- `begin`: a turn stores the pixel that it reads. Assumes nothing.
-use Prim.Native.Nat.{◌-◌}
 use lib.ListN.{get_or}
 use Rattle.grid.proofs.Span.{Spanning}
 use Rattle.cumsums.proofs.begin.Given as goal

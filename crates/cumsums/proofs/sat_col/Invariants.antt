@@ -1,5 +1,4 @@
 -- `sat_col`: a turn fills row y. Assumes nothing.
-use Prim.Native.Nat.{◌-◌}
 use Rattle.grid.proofs.Loops.{Rows}
 use Rattle.grid.specs.Ways.{pixel, down}
 use Rattle.cumsums.specs.Tables.{table_at}

@@ -1,5 +1,4 @@
 -- `sat_diag`: a turn fills row y. Assumes nothing.
-use Prim.Native.Nat.{◌-◌}
 use Rattle.grid.proofs.Loops.{rows_none}
 use Rattle.cumsums.specs.Passes.{way_of}
 use Rattle.cumsums.proofs.Running.{above_of, rows_next}

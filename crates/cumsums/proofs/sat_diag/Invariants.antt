@@ -1,5 +1,4 @@
 -- `sat_diag`: a turn fills row y. Assumes nothing.
-use Prim.Native.Nat.{◌-◌}
 use Rattle.grid.proofs.Loops.{Rows}
 use Rattle.grid.specs.Ways.{pixel}
 use Rattle.cumsums.specs.Tables.{table_at}

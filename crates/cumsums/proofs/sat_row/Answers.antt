@@ -1,5 +1,4 @@
 -- `sat_row`: a turn fills row y. Assumes nothing.
-use Prim.Native.Nat.{◌-◌}
 use Rattle.grid.proofs.Loops.{rows_none}
 use Rattle.grid.specs.Ways.{along}
 use Rattle.cumsums.proofs.Running.{above_of, rows_next}

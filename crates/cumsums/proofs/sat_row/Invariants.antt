@@ -1,5 +1,4 @@
 -- `sat_row`: a turn fills row y. Assumes nothing.
-use Prim.Native.Nat.{◌-◌}
 use Rattle.grid.proofs.Loops.{Rows}
 use Rattle.grid.specs.Ways.{pixel, along}
 use Rattle.cumsums.specs.Tables.{table_at}

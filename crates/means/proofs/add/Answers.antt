@@ -1,8 +1,6 @@
 -- `means::add` meets its contract: a turn adds one entry of src to the entry of dst. Assumes nothing.
 use mathlib.Core.Path.{refl}
-use Prim.Native.Nat.{◌-◌}
 use native.Mathlib.Omega.{arith}
-use lib.Ieee as ieee
 use Rattle.grid.proofs.Touch.{span_none, span_more, span_all}
 use Rattle.means.proofs.add.Goals as goal
 

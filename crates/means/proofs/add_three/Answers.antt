@@ -1,8 +1,6 @@
 -- `means::add_three` meets its contract: a turn adds the three rows' entries to one entry of dst, in order. Assumes nothing.
 use mathlib.Core.Path.{refl}
-use Prim.Native.Nat.{◌-◌}
 use native.Mathlib.Omega.{arith}
-use lib.Ieee as ieee
 use Rattle.grid.proofs.Touch.{span_none, span_more, span_all}
 use Rattle.means.specs.Kernel.{add_three}
 use Rattle.means.proofs.add_three.Goals as goal

@@ -1,8 +1,6 @@
 -- `means::add_three` meets its contract: a turn adds the three rows' entries to one entry of dst, in order. Assumes nothing.
-use Prim.Native.Nat.{◌-◌}
 use lib.ListN.{length}
 use lib.Ieee.{nan}
-use lib.Ieee as ieee
 use Rattle.grid.proofs.Touch.{Span}
 use Rattle.means.specs.Kernel.{add_three}
 use Rattle.means.proofs.add_three.Given as goal

@@ -1,8 +1,6 @@
 -- `means::clear` meets its contract: a turn sets one entry. Assumes nothing.
 use mathlib.Core.Path.{refl}
-use Prim.Native.Nat.{◌-◌}
 use native.Mathlib.Omega.{arith}
-use lib.Ieee as ieee
 use Rattle.grid.proofs.Touch.{span_none, span_more, span_all}
 use Rattle.means.proofs.clear.Goals as goal
 

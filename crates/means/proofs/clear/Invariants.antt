@@ -1,8 +1,6 @@
 -- `means::clear` meets its contract: a turn sets one entry. Assumes nothing.
-use Prim.Native.Nat.{◌-◌}
 use lib.ListN.{length}
 use lib.Ieee.{nan}
-use lib.Ieee as ieee
 use Rattle.float.specs.Values.{f0}
 use Rattle.grid.proofs.Touch.{Span}
 use Rattle.means.proofs.clear.Given as goal

@@ -1,8 +1,6 @@
 -- `means::divide` meets its contract: a turn divides one entry. Assumes nothing.
 use mathlib.Core.Path.{refl}
-use Prim.Native.Nat.{◌-◌}
 use native.Mathlib.Omega.{arith}
-use lib.Ieee as ieee
 use Rattle.grid.proofs.Touch.{span_none, span_more, span_all}
 use Rattle.means.proofs.divide.Goals as goal
 

@@ -1,5 +1,4 @@
 -- `means::divide` meets its contract: a turn divides one entry. Assumes nothing.
-use Prim.Native.Nat.{◌-◌}
 use lib.Ieee.{nan, binary32}
 use lib.Ieee as ieee
 use Rattle.grid.proofs.Touch.{Span}

@@ -1,7 +1,5 @@
 -- `means::divide_edge` meets its contract: a turn divides one entry by the count of its own window. Assumes nothing.
-use Prim.Native.Nat.{◌-◌}
 use native.Mathlib.Omega.{arith}
-use lib.Ieee as ieee
 use Rattle.grid.proofs.Touch.{span_none, span_more, span_all}
 use Rattle.means.proofs.Steps.{by_count}
 use Rattle.means.proofs.divide_edge.Goals as goal

@@ -1,5 +1,4 @@
 -- `means::divide_edge` meets its contract: a turn divides one entry by the count of its own window. Assumes nothing.
-use Prim.Native.Nat.{◌-◌}
 use lib.ListN.{length}
 use lib.Ieee.{nan, binary32}
 use lib.Ieee as ieee

@@ -1,8 +1,6 @@
 -- `means::scale` meets its contract: a turn multiplies one entry by the reciprocal. Assumes nothing.
 use mathlib.Core.Path.{refl}
-use Prim.Native.Nat.{◌-◌}
 use native.Mathlib.Omega.{arith}
-use lib.Ieee as ieee
 use Rattle.grid.proofs.Touch.{span_none, span_more, span_all}
 use Rattle.means.proofs.scale.Goals as goal
 

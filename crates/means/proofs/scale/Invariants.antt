@@ -1,5 +1,4 @@
 -- `means::scale` meets its contract: a turn multiplies one entry by the reciprocal. Assumes nothing.
-use Prim.Native.Nat.{◌-◌}
 use lib.ListN.{length}
 use lib.Ieee.{nan, binary32}
 use lib.Ieee as ieee

@@ -1,5 +1,5 @@
 -- `means::sum_columns` meets its contract: turns add three rows, then one, to the columns' sums. Assumes nothing.
-use Prim.Native.Nat.{◌+◌, ◌-◌, ◌*◌, ◌≤◌}
+use Prim.Native.Nat.{◌+◌, ◌*◌, ◌≤◌}
 use native.Mathlib.Omega.{arith}
 use lib.Ieee.{nan}
 use Rattle.grid.proofs.Plane.{row_in}

@@ -1,6 +1,5 @@
 -- `means::sum_row` meets its contract: after k turns each entry is the sum of its window's first k places, those outside left out. Assumes nothing.
 use mathlib.Core.Path.{refl}
-use Prim.Native.Nat.{◌-◌}
 use native.Mathlib.Omega.{arith}
 use Rattle.means.proofs.Steps.{row-none, row_more, row_all}
 use Rattle.means.proofs.sum_row.Goals as goal

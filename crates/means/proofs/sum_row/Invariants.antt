@@ -1,5 +1,5 @@
 -- `means::sum_row` meets its contract: after k turns each entry is the sum of its window's first k places, those outside left out. Assumes nothing.
-use Prim.Native.Nat.{◌-◌, ◌≤◌}
+use Prim.Native.Nat.{◌≤◌}
 use Rattle.means.proofs.Steps.{After}
 use Rattle.means.proofs.sum_row.Given as goal
 

@@ -1,5 +1,4 @@
 -- `saddle::disk_moments` meets its contract. Assumes nothing.
-use Prim.Native.Nat.{◌-◌}
 use Rattle.saddle.specs.Saddle.{no_moments, moment_added}
 use Rattle.saddle.proofs.Walk.{Above, Within}
 use Rattle.saddle.proofs.disk_moments.Given as goal

@@ -1,6 +1,5 @@
 -- `saddle::disk_norms` meets its contract. Assumes nothing.
 use mathlib.Core.Path.{refl}
-use Prim.Native.Nat.{◌-◌}
 use Rattle.saddle.specs.Saddle.{norm_added, norms_of}
 use Rattle.saddle.proofs.Walk.{above-none, within_none, within_more, above_more, above_all}
 use Rattle.saddle.proofs.disk_norms.Goals as goal

@@ -1,5 +1,4 @@
 -- `saddle::disk_norms` meets its contract. Assumes nothing.
-use Prim.Native.Nat.{◌-◌}
 use Rattle.saddle.specs.Saddle.{no_sums, norm_added}
 use Rattle.saddle.proofs.Walk.{Above, Within}
 use Rattle.saddle.proofs.disk_norms.Given as goal

@@ -1,7 +1,6 @@
 -- `saddle::project` meets its contract: the row of the square lies in the buffer, and each read is the pixel meant.
 use Prim.Native.Nat.{◌+◌, ◌-◌, ◌*◌, ◌≤◌}
 use lib.ListN.{length}
-use Rattle.grid.specs.Ways.{pixel}
 use Rattle.saddle.specs.Saddle.{side, added, sums_of}
 use Rattle.saddle.proofs.Walk.{above-none, within_none, within_more, above_more, above_all}
 use Rattle.saddle.proofs.Walk.{row_room, pixel-at}

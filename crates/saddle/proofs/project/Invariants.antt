@@ -1,5 +1,5 @@
 -- `saddle::project` meets its contract: the row of the square lies in the buffer, and each read is the pixel meant.
-use Prim.Native.Nat.{◌+◌, ◌-◌, ◌≤◌}
+use Prim.Native.Nat.{◌+◌, ◌≤◌}
 use lib.ListN.{length}
 use Rattle.grid.specs.Ways.{pixel}
 use Rattle.saddle.specs.Saddle.{side, no_sums, added, around}

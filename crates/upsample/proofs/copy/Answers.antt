@@ -1,6 +1,5 @@
 -- `upsample::copy` meets its contract: a turn stores the entry that it reads. Assumes nothing.
 use mathlib.Core.Path.{refl}
-use Prim.Native.Nat.{◌-◌}
 use Rattle.grid.proofs.Loops.{line-none, line_more}
 use Rattle.upsample.proofs.copy.Goals as goal
 

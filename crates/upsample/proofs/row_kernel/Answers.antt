@@ -1,6 +1,6 @@
 -- `upsample::row_kernel` meets its contract: a turn stores the two working pixels of column x, and the end those of the last. Assumes nothing.
 use mathlib.Core.Path.{refl}
-use Prim.Native.Nat.{◌+◌, ◌-◌}
+use Prim.Native.Nat.{◌+◌}
 use native.Mathlib.Omega.{arith}
 use Rattle.grid.proofs.Loops.{line-none}
 use Rattle.upsample.proofs.Steps.{line-two, line_last, line_empty}

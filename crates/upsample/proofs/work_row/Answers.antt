@@ -1,6 +1,5 @@
 -- `upsample::work_row` meets its contract: between two rows of the image at factor 2, one row of it at factor 1. Assumes nothing.
 use mathlib.Core.Path.{◌≡◌}
-use Prim.Native.Nat.{◌-◌}
 use native.Mathlib.Omega.{arith}
 use Rattle.upsample.proofs.Steps.{part_at, doubled, copied}
 use Rattle.upsample.proofs.work_row.Goals.{Else-factor-eq2}

@@ -1,6 +1,5 @@
 -- `upsample::work_rows` meets its contract: a turn fills one working row. Assumes nothing.
 use mathlib.Core.Path.{refl}
-use Prim.Native.Nat.{◌-◌}
 use native.Mathlib.Omega.{arith}
 use lib.ListN.{length}
 use Rattle.grid.proofs.Loops.{rows_none}

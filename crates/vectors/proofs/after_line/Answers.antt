@@ -1,5 +1,4 @@
 -- `vectors::after_line` meets its contract: it stops behind the first line feed, or at the end. Assumes nothing.
-use Prim.Native.Nat.{◌-◌}
 use Rattle.vectors.proofs.Places.{passed_feed, passed_more, passed_all}
 use Rattle.vectors.proofs.after_line.Goals as goal
 

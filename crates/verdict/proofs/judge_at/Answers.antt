@@ -1,7 +1,6 @@
 -- `verdict::judge_at` meets its contract: by its test, the first rule that fails or what is told where the window does not fit. Assumes nothing.
 use mathlib.Core.Path.{sym, ◌∙◌}
 use Rattle.verdict.proofs.Rules.{window-room}
-use borrow.Author.Rules.{rules}
 use Rattle.verdict.proofs.judge_at.Goals as goal
 
 pub by_rules-requires : goal.by_rules-requires

@@ -1,9 +1,6 @@
 -- `crests::crests::above_in` meets its contract. The invariant counts the entries passed. Assumes nothing.
-use Prim.Native.Nat.{◌-◌}
 use native.Mathlib.Omega.{arith}
-use Rattle.grid.specs.Each.{count}
 use Rattle.grid.proofs.Each.{count_none, count_yes, count_no}
-use Rattle.grid.specs.Rect.{range}
 use Rattle.grid.proofs.Rect.{range_none, range_more}
 use Rattle.crests.proofs.crests.above_in.Goals as goal
 use Rattle.crests.proofs.crests.above_in.Goals.{then-part-i, else-part-i}

@@ -1,5 +1,4 @@
 -- `crests::crests::next_crest` meets its contract. The invariant is `Went`: there is no crest before k, and what is above is counted.
-use Prim.Native.Nat.{◌-◌}
 use native.Mathlib.Omega.{arith}
 use Rattle.crests.proofs.Passing.{went_above, went_under, went_few}
 use Rattle.crests.proofs.crests.next_crest.Goals as goal

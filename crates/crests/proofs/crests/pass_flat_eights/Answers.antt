@@ -1,5 +1,4 @@
 -- `crests::crests::pass_flat_eights` meets its contract. The invariant is `Went`: there is no crest before i, and what is above is counted.
-use Prim.Native.Nat.{◌-◌}
 use native.Mathlib.Omega.{arith}
 use Rattle.crests.proofs.Passing.{went_none, went_low, went_slope, went_few}
 use Rattle.crests.proofs.crests.pass_flat_eights.Goals as goal

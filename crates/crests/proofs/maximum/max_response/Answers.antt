@@ -1,5 +1,4 @@
 -- `crests::maximum::max_response` meets its contract. The invariant: of each quarter, the first i entries are folded. Assumes nothing.
-use Prim.Native.Nat.{◌-◌}
 use native.Mathlib.Omega.{arith}
 use Rattle.crests.specs.Maximum.{entry}
 use Rattle.crests.proofs.Greatest.{quarters_none, quarters_eight, quarters_all}

@@ -1,9 +1,7 @@
 -- `crests::maximum::raised` meets its contract. The invariant: the entries before i are folded. Assumes nothing.
 use mathlib.Core.Path.{refl}
-use Prim.Native.Nat.{◌-◌}
 use native.Mathlib.Omega.{arith}
 use Rattle.grid.proofs.Fold.{folding_none, folding_more}
-use Rattle.crests.specs.Maximum.{greater}
 use Rattle.crests.proofs.maximum.raised.Goals as goal
 
 pub loop-i-init : goal.loop-i-init

@@ -1,5 +1,4 @@
 -- `crests::maximum::raised` meets its contract. The invariant: the entries before i are folded. Assumes nothing.
-use Prim.Native.Nat.{◌-◌}
 use Rattle.grid.proofs.Fold.{Folding}
 use Rattle.crests.specs.Maximum.{entry, greater}
 use Rattle.crests.proofs.maximum.raised.Given as goal

@@ -1,5 +1,4 @@
 -- `crests::maximum::raised_eight` meets its contract: where none of the eight is above m, they leave it as it is. Assumes nothing.
-use Prim.Native.Nat.{◌-◌}
 use Rattle.crests.specs.Maximum.{entry}
 use Rattle.crests.proofs.Greatest.{eight_still}
 use Rattle.crests.proofs.maximum.raised_eight.Goals as goal

@@ -1,6 +1,6 @@
 -- `params::judges::judge_size` meets its contract: every answer is walked to along the chain. Assumes nothing.
 use mathlib.Core.Path.{◌≡◌, sym, ◌∙◌}
-use mathlib.Core.Bool.{true, false}
+use mathlib.Core.Bool.{false}
 use Rattle.params.specs.Refusals.{side_over, pixels_of, size_refusal}
 use Rattle.params.proofs.Chain.{chain}
 use Rattle.params.proofs.Accepted.{pixels_exact}

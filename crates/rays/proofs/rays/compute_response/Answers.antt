@@ -1,6 +1,5 @@
 -- `compute_response`: a turn fills row y. Assumes nothing.
 use mathlib.Core.Path.{refl}
-use Prim.Native.Nat.{◌-◌}
 use Rattle.grid.proofs.Loops.{rows_none}
 use Rattle.grid.proofs.Part.{rows-part}
 use Rattle.rays.proofs.rays.compute_response.Goals as goal

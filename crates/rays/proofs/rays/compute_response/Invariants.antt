@@ -1,5 +1,4 @@
 -- `compute_response`: a turn fills row y. Assumes nothing.
-use Prim.Native.Nat.{◌-◌}
 use Rattle.grid.proofs.Loops.{Rows}
 use Rattle.rays.specs.Response.{response_at}
 use Rattle.rays.specs.Shown.{shown}

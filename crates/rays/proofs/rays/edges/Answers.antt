@@ -1,5 +1,4 @@
 -- `edges`: a turn stores the response of a pixel, by its tests. Assumes nothing.
-use Prim.Native.Nat.{◌-◌}
 use Rattle.grid.proofs.Loops.{line-none, line_more}
 use Rattle.rays.proofs.rays.edges.Goals as goal
 

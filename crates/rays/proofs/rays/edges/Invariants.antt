@@ -1,5 +1,5 @@
 -- `edges`: a turn stores the response of a pixel, by its tests. Assumes nothing.
-use Prim.Native.Nat.{◌+◌, ◌-◌}
+use Prim.Native.Nat.{◌+◌}
 use lib.ListN.{length}
 use Rattle.grid.proofs.Loops.{Line}
 use Rattle.rays.specs.Shown.{read_at}

@@ -1,5 +1,4 @@
 -- `entry`: the tests are those of `entry_at`. Assumes nothing.
-use Prim.Native.Nat.{◌-◌}
 use native.Mathlib.Omega.{arith}
 use borrow.Author.Tests.{lt-ltb, le-ltb, le-leb, lt-leb}
 use Rattle.rays.specs.Shown.{entry_at}

@@ -1,5 +1,4 @@
 -- `inner`: a turn stores the response of a pixel whose eight entries are in the image. Assumes nothing.
-use Prim.Native.Nat.{◌-◌}
 use Rattle.grid.proofs.Loops.{line-none, line_more}
 use Rattle.rays.proofs.rays.inner.Goals as goal
 

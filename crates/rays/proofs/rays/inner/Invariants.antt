@@ -1,5 +1,5 @@
 -- `inner`: a turn stores the response of a pixel whose eight entries are in the image. Assumes nothing.
-use Prim.Native.Nat.{◌+◌, ◌-◌}
+use Prim.Native.Nat.{◌+◌}
 use lib.ListN.{length}
 use Rattle.grid.proofs.Loops.{Line}
 use Rattle.rays.specs.Shown.{read_at}

@@ -1,5 +1,5 @@
 -- `scalar::logarithm::odd_sum` meets its contract: after j turns p is the power and sum the sum of the definition, each at j. Assumes nothing.
-use Rattle.std.proofs.Common.{◌≡◌, ℕ, ◌+◌, ◌-◌, ◌*◌, ◌/◌, refl, div-le_self, arith}
+use Rattle.std.proofs.Common.{◌≡◌, ℕ, ◌+◌, ◌*◌, ◌/◌, refl, div-le_self, arith}
 use Rattle.scalar.specs.Log.{cut_power, cut_sum, unit}
 use Rattle.scalar.proofs.Series.{square_le, step_le, power_step, sum_step}
 use Rattle.scalar.proofs.logarithm.odd_sum.Goals as goal

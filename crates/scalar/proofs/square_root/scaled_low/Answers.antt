@@ -1,5 +1,5 @@
 -- `scalar::square_root::scaled_low` meets its contract: n * 4 ^ h stays the same while n is below 2 ^ 46. Assumes nothing.
-use Rattle.std.proofs.Common.{◌-◌, arith}
+use Rattle.std.proofs.Common.{arith}
 use Rattle.scalar.proofs.Quarters.{low_step, low-val}
 use Rattle.scalar.proofs.square_root.scaled_low.Goals as goal
 

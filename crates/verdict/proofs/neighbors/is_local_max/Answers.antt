@@ -1,5 +1,4 @@
 -- `verdict::neighbors::is_local_max` meets its contract. The invariant: none of the rows passed has a greater value. Assumes nothing.
-use Prim.Native.Nat.{◌-◌}
 use Rattle.verdict.proofs.Windows.{cross, free_none, free_more, beaten-near, beaten-row, unbeaten}
 use Rattle.verdict.proofs.neighbors.is_local_max.Goals as goal
 

@@ -1,5 +1,4 @@
 -- `verdict::neighbors::positive_in_window` meets its contract. The invariant counts the rows passed whole. Assumes nothing.
-use Prim.Native.Nat.{◌-◌}
 use native.Mathlib.Omega.{arith}
 use Rattle.verdict.proofs.Windows.{count_none_yet, count-row, count-rows}
 use Rattle.verdict.proofs.neighbors.positive_in_window.Goals as goal

@@ -1,5 +1,4 @@
 -- `verdict::neighbors::positive_in_window` meets its contract. The invariant counts the rows passed whole. Assumes nothing.
-use Prim.Native.Nat.{◌-◌}
 use Rattle.verdict.proofs.Windows.{CountTo}
 use Rattle.verdict.proofs.neighbors.positive_in_window.Given as goal
 
