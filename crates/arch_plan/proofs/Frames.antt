@@ -10,7 +10,6 @@ use lib.Dec.{ltb}
 use lib.ListN.{length, drop, length-drop}
 use lib.Seq.{drop-drop, drop-length}
 use Rattle.big_endian.specs.BigEndian.{word_at}
-use Rattle.params.specs.declared.answers.Answer.{Answer}
 use Rattle.params.specs.declared.answers.Answer.TheVariants.{FileTooShort, StatedLength}
 use Rattle.arch_plan.specs.declared.due.Due.{Due}
 use Rattle.arch_plan.specs.declared.due.Due.TheVariants.{Whole, Refused}

@@ -1,7 +1,7 @@
 -- The two cases of the entry's promise: a call that is refused, and one that is not. Assumes nothing.
-use mathlib.Core.Path.{◌≡◌, refl, sym, ap, ◌∙◌}
+use mathlib.Core.Path.{◌≡◌, sym, ap, ◌∙◌}
 use mathlib.Core.List.{List}
-use Prim.Native.Nat.{ℕ, ◌*◌, min}
+use Prim.Native.Nat.{ℕ, ◌*◌}
 use lib.ListN.{length}
 use borrow.Author.Tests.{eq-eqb, ne_eqb}
 use Rattle.grid.specs.Ways.{pixel}
@@ -12,7 +12,7 @@ use Rattle.params.specs.Settings.{factor_of, ray_of}
 use Rattle.params.specs.Answers.{number_of}
 use Rattle.params.specs.Refusals.{map_refusal_of}
 use Rattle.response.specs.declared.Mapped.{Mapped}
-use Rattle.response.specs.Map.{Buffers, room_of, mapped_by, mapped, mapped_of, map_buffers_of, answered}
+use Rattle.response.specs.Map.{Buffers, room_of, mapped_by, mapped_of, map_buffers_of, answered}
 
 module _ (img : List ℕ) (w h : ℕ) (p : RadonDetectorParams) (b : Buffers) {room : ℕ} (r : room ≡ room_of b) {a : Answer}
     (e : a ≡ map_refusal_of w h (length img) p room) {n : ℕ} (k : n ≡ number_of a) where

@@ -1,8 +1,8 @@
 -- The passes one after the other: what they leave in the seven buffers is `mapped_by`. Assumes nothing.
-use mathlib.Core.Path.{◌≡◌, refl, sym, ap, ◌∙◌}
+use mathlib.Core.Path.{◌≡◌, sym, ap, ◌∙◌}
 use mathlib.Core.Bool.{cond}
 use mathlib.Core.List.{List}
-use Prim.Native.Nat.{ℕ, ◌+◌, ◌*◌, ◌≤◌, ◌<◌}
+use Prim.Native.Nat.{ℕ, ◌*◌, ◌≤◌, ◌<◌}
 use native.Mathlib.Nat.{le_refl, le_of_eq}
 use native.Mathlib.Omega.{arith}
 use lib.ListN.{length}
@@ -18,7 +18,7 @@ use Rattle.upsample.specs.Fitting.{FittingImage}
 use Rattle.upsample.proofs.Fits.{up_plain}
 use Rattle.cumsums.specs.Tables.{table_of}
 use Rattle.rays.specs.Response.{response_at}
-use Rattle.rays.specs.Lent.{Lent, tabled, rays_of, rays_fit}
+use Rattle.rays.specs.Lent.{tabled, rays_of, rays_fit}
 use Rattle.rays.proofs.Fit.{Fitted, rays_plain}
 use Rattle.cumsums.proofs.Summed.{table_filled}
 use Rattle.rays.proofs.Inner.{response_ext}

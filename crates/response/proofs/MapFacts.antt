@@ -1,25 +1,23 @@
 -- Facts about the map: a raised frame has the same one, its values lie in the logarithm's range, and old contents change nothing that is written.
 -- Assumes nothing.
-use mathlib.Core.Path.{◌≡◌, refl, sym, ap, ◌∙◌}
+use mathlib.Core.Path.{◌≡◌, ◌∙◌}
 use mathlib.Core.Logic.{◌⊎◌, inl, inr}
 use mathlib.Core.Bool.{false}
 use mathlib.Core.List.{List}
-use Prim.Native.Nat.{ℕ, zero, suc, ◌+◌, ◌*◌, ◌^◌, ◌≤◌, ◌<◌}
+use Prim.Native.Nat.{ℕ, ◌+◌, ◌*◌, ◌^◌, ◌≤◌, ◌<◌}
 use native.Mathlib.Nat.{le_trans}
 use lib.Dec.{T, lit≤}
 use lib.IntN.{pos, negsuc}
-use lib.ListN.{length, take}
-use lib.Ieee.{Float, fin, le}
+use lib.ListN.{take}
+use lib.Ieee.{fin, le}
 use lib.Ieee.Scale.{finite}
 use Rattle.float.specs.Values.{f0}
-use Rattle.grid.specs.Fill.{filled}
 use Rattle.grid.proofs.Fill.{written_same}
-use Rattle.grid.specs.Plane.{plane}
 use Rattle.params.specs.declared.settings.RadonDetectorParams.{RadonDetectorParams}
 use Rattle.upsample.specs.Upsample.{work_at}
 use Rattle.upsample.proofs.RoundedQuarter.{work_most, work_raised, work_ext}
 use Rattle.rays.proofs.Inner.{response_raised, response_ext}
-use Rattle.rays.proofs.SpreadExact.{Whole, response-values}
+use Rattle.rays.proofs.SpreadExact.{response-values}
 use Rattle.blur.proofs.BlurLaws.{blur_at_ext, same-scratch}
 use Rattle.blur.proofs.BlurRange.{ZeroOr, whole_in, blur_eight, blur_number}
 use Rattle.response.specs.Map.{raw_at, map_at, Buffers, mapped_by, mapped_of, room_of}

@@ -5,7 +5,7 @@ use mathlib.Core.Bool.{false}
 use Prim.Native.Nat.{ℕ, ◌*◌, ◌≤◌, ◌<◌}
 use lib.Dec.{T}
 use lib.IntN.{pos}
-use lib.Ieee.{Float, binary32, fits, of_bits, of_int}
+use lib.Ieee.{binary32, fits, of_bits, of_int}
 use lib.Ieee.Exact.{HasValue}
 use lib.Ieee.Fits.{mul-fits, cond-fits}
 use Rattle.float.specs.Values.{f0}

@@ -1,6 +1,5 @@
 -- What the passes ask of a call: limits, and room in each buffer; and that a call which is not refused has them. Assumes nothing.
-use mathlib.Core.Path.{◌≡◌, sym, ap, ◌∙◌}
-use mathlib.Core.List.{List}
+use mathlib.Core.Path.{◌≡◌, ap}
 use Prim.Native.Nat.{ℕ, ◌*◌, ◌≤◌, ◌<◌, min}
 use native.Mathlib.Nat.{le_trans, le_of_eq, min-le_left, min-le_right, mul-le-mul}
 use native.Mathlib.Omega.{arith}

@@ -1,6 +1,6 @@
 -- `detect::peaks::find_in_row` meets its contract. The invariant is `Scanned`: what the row has, up to the place where the search stands.
 use mathlib.Core.List.{List}
-use Prim.Native.Nat.{ℕ, ◌-◌}
+use Prim.Native.Nat.{ℕ}
 use Rattle.detect.proofs.Scanning.{Scanned, scan_none, scan_on, scan_turn, scan_all, candidate}
 use Rattle.detect.proofs.peaks.find_in_row.Goals.{After-next_in_row-x}
 use Rattle.detect.proofs.peaks.find_in_row.Goals as goal

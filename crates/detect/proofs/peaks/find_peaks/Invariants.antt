@@ -1,5 +1,4 @@
 -- `detect::peaks::find_peaks` meets its contract. The invariant is `FoundTo`: what is found and counted in the rows above. Assumes nothing.
-use Prim.Native.Nat.{◌-◌}
 use Rattle.detect.proofs.Rows.{FoundTo}
 use Rattle.detect.proofs.peaks.find_peaks.Given as goal
 

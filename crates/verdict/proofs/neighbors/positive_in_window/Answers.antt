@@ -9,7 +9,7 @@ loop-yy-init c = count_none_yet c.args.resp.now c.requires
 pub overflow_add-count : goal.overflow_add-count
 overflow_add-count c =
     let more =
-        count-row c.args.resp.now c.requires c.loop-yy.invariant c.loop-yy-test.true c.row_part.ensures c.count_above-count.ensures in
+    count-row c.args.resp.now c.requires c.loop-yy.invariant c.loop-yy-test.true c.row_part.ensures c.count_above-count.ensures in
     omega (arith, more.few)
 
 pub loop-yy-preserved : goal.loop-yy-preserved
