@@ -1,25 +1,25 @@
 // What the replay programs read, on standard input, and what they tell of a replay, on standard output.
 #![tactic(auto)]
 
-ghost use Rattle.std.specs.Prelude.{◌≤◌, ◌<◌, take, length, IfOk};
-ghost use Rattle.std.specs.Io.KnownBytes.{Consumes, IsAtEnd};
+ghost use Rattle.std.specs.Prelude.{◌≡◌, take, length, IfOk, IfSome};
+ghost use Rattle.std.specs.Io.{ReadsAtMost};
 
 use replay::Walk;
 use std::io;
 use std::io::Read;
 use vectors::{after_line, part};
 
-// Reads until there is no more room or the input ends, and answers how many bytes now stand at the front.
+// Reads until there is no more room or the input ends, and answers how many bytes now stand at the front of the room: as many of the input's.
 pub fn read_full<R: Read>(input: &mut R, room: &mut [u8]) -> io::Result<usize>
-    ensures within { IfOk result (λ n. n ≤ length room.new) }
-    ensures bytes { IfOk result (λ n. Consumes (R.remaining input.old) (R.remaining input.new) (take n room.new)) }
-    ensures end { IfOk result (λ n. n < length room.new → IsAtEnd (R.remaining input.new)) }
+    ensures within { ReadsAtMost result room.new }
+    ensures front { IfOk result (λ n. IfSome (R.remaining input.old)
+        (λ given. take n room.new ≡ take (length room.new) given)) }
 {
     let mut done: usize = 0;
     while done < room.len() {
         let more = input.read(&mut room[done..])?;
         if more == 0 {
-            break;
+            return Ok(done);
         }
         done += more;
     }
@@ -33,7 +33,11 @@ pub fn head(rt: &impl Print, s: &[u8], w: Walk) -> io::Result<()> {
     say(rt, b"records", tally.records)?;
     say(rt, b"records that disagree", tally.wrong)?;
     if tally.wrong > 0 {
-        say(rt, b"number of the first that disagrees, from 0", tally.first)?;
+        say(
+            rt,
+            b"number of the first that disagrees, from 0",
+            tally.first,
+        )?;
     }
     Ok(())
 }
