@@ -2,5 +2,5 @@
 use Rattle.std.proofs.Common.{◌-◌}
 use Rattle.tell.proofs.each.Given as goal
 
-abbrev pub decreases-loop : goal.decreases-loop
-decreases-loop g l = l.end - l.i
+abbrev pub decreases-loop-i : goal.decreases-loop-i
+decreases-loop-i g l = l.end - l.i
