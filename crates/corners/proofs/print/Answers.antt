@@ -5,4 +5,6 @@ use Rattle.corners.proofs.print.Goals as goal
 
 pub loop-i-preserved : goal.loop-i-preserved
 loop-i-preserved g c =
-    (search rules, print_more _ _ _ _ c.loop-i.i (omega (arith, c.loop-i-test.true, c.lines-many.ensures)) c.loop-i.invariant.1 c.in_ok-print_line.ensures)
+    let before = c.loop-i.invariant.1 in
+    let line = c.in_ok-print_line.ensures in
+    (search rules, print_more _ _ _ _ c.loop-i.i (omega (arith, c.loop-i-test.true, c.lines-many.ensures)) before line)

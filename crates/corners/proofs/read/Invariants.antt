@@ -4,7 +4,9 @@ use Rattle.std.specs.Io.KnownBytes.{Consumes}
 use Rattle.corners.proofs.read.Given as goal
 
 abbrev pub invariant-loop-done : goal.invariant-loop-done
-invariant-loop-done g l = (l.done ≤ length l.input) × (length l.input ≡ length l.initial.input)
+invariant-loop-done g l =
+    (l.done ≤ length l.input)
+    × (length l.input ≡ length l.initial.input)
     × Consumes (g.R.Read.remaining l.fn.from) (g.R.Read.remaining l.from) (take l.done l.input)
 
 abbrev pub decreases-loop-done : goal.decreases-loop-done

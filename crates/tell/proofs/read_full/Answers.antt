@@ -5,5 +5,6 @@ use Rattle.tell.proofs.read_full.Goals as goal
 
 pub loop-done-preserved : goal.loop-done-preserved
 loop-done-preserved g c =
-    let more = read_more _ _ _ c.loop-done.done _ c.in_ok-more.more c.loop-done.room c.read.new.buf c.loop-done.invariant.0 c.in_ok-more.ensures.bound.0 c.loop-done.invariant.2 c.in_ok-more.ensures.bytes.0 in
-    (search rules, search rules, more)
+    let before = c.loop-done.invariant in
+    let read = c.in_ok-more.ensures in
+    (search rules, search rules, read_more _ _ _ _ _ _ _ _ before.0 read.bound.0 before.2 read.bytes.0)

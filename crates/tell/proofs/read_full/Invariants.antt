@@ -4,7 +4,9 @@ use Rattle.std.specs.Io.KnownBytes.{Consumes}
 use Rattle.tell.proofs.read_full.Given as goal
 
 abbrev pub invariant-loop-done : goal.invariant-loop-done
-invariant-loop-done g l = (l.done ≤ length l.room) × (length l.room ≡ length l.initial.room)
+invariant-loop-done g l =
+    (l.done ≤ length l.room)
+    × (length l.room ≡ length l.initial.room)
     × Consumes (g.R.Read.remaining l.fn.input) (g.R.Read.remaining l.input) (take l.done l.room)
 
 abbrev pub decreases-loop-done : goal.decreases-loop-done
