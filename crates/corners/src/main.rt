@@ -1,64 +1,95 @@
 // The program: reads one frame file from standard input and prints its list, or the number by which it is refused.
-// What cannot be read or written leaves a word on standard error.
+// What cannot be read or written leaves a word on standard error, and the status is then 1.
 #![tactic(auto)]
 
-use libc::{STDIN_FILENO, STDOUT_FILENO};
-use params::Outcome;
+ghost use Rattle.std.specs.Prelude.{◌≡◌, [], get_or, length, take, OnOk, IfOk, IfErr, IfSome};
+ghost use Rattle.std.specs.List.{concat};
+ghost use Rattle.std.specs.Io.{ReadsAtMost};
+ghost use Rattle.std.specs.Io.KnownBytes.{Appends, Keeps};
+ghost use Rattle.lines.specs.Printed.{printed};
+ghost use Rattle.program.specs.Program.{lines_of};
+ghost use Rattle.corners.specs.Faults.{IsReading};
 
-// What reading gave: so many bytes, or none that count, since it failed.
-#[derive(Clone, Copy)]
-enum Input {
-    Bytes(usize),
-    Failed,
+use params::Outcome;
+use std::io::{Read, Write};
+use std::process::ExitCode;
+use std::{fmt, io};
+
+// Which of the two failed, and why.
+#[derive(Debug, Drop)]
+enum Fault {
+    Reading(io::Error),
+    Writing(io::Error),
 }
 
-fn main() {
-    let mut input = [0u8; 2325];
-    let Input::Bytes(got) = read(&mut input) else {
-        os::fail(b"corners: standard input");
-        return;
-    };
-    let mut list = [0.0f32; 768];
-    let outcome = program::answer(&input, got, &mut list);
-    if !print(outcome, &list) {
-        os::fail(b"corners: standard output");
+impl fmt::Display for Fault {
+    fn fmt<W: fmt::Write>(&self, f: &mut fmt::Formatter<W>) -> fmt::Result {
+        match self {
+            Fault::Reading(e) => write!(f, "standard input: {e}"),
+            Fault::Writing(e) => write!(f, "standard output: {e}"),
+        }
     }
 }
 
-// Standard input up to its end, or as much as there is room for. Where a read fails, what came before it does not count.
-fn read(input: &mut [u8]) -> Input {
+// What failed is said on standard error; a word that cannot be written there is left out.
+fn main(rt: HostRuntime) -> ExitCode {
+    match run(&mut rt.stdin(), &mut rt.stdout()) {
+        Ok(()) => ExitCode::SUCCESS,
+        Err(fault) => {
+            let _ = eprintln!(rt; "corners: {fault}");
+            ExitCode::FAILURE
+        }
+    }
+}
+
+// From the bytes of a file to those of its printed lines. Where a read fails, nothing is printed.
+fn run<R: Read, W: Write>(from: &mut R, to: &mut W) -> Result<(), Fault>
+    ensures whole { OnOk result (IfSome (R.remaining from.old)
+        (λ file. Appends (W.contents to.old) (W.contents to.new) (concat (lines_of file)))) }
+    ensures unread { IfErr result (λ fault. IsReading fault → Keeps (W.contents to.old) (W.contents to.new)) }
+{
+    let mut input = [0u8; 2325];
+    let got = read(from, &mut input).map_err(Fault::Reading)?;
+    let mut list = [0.0f32; 768];
+    let outcome = program::answer(&input, got, &mut list);
+    print(to, outcome, &list).map_err(Fault::Writing)
+}
+
+// The input up to its end, or as much as there is room for. Where a read fails, what came before it does not count.
+fn read<R: Read>(from: &mut R, input: &mut [u8]) -> io::Result<usize>
+    ensures within { ReadsAtMost result input.new }
+    ensures front { IfOk result (λ n. IfSome (R.remaining from.old)
+        (λ file. take (length input.new) file ≡ take n input.new)) }
+{
     let mut done: usize = 0;
     while done < input.len() {
-        let got = libc::read(STDIN_FILENO, &mut input[done..]);
-        if got < 0 {
-            return Input::Failed;
-        }
-        let more = io::count(got, &input[done..]);
+        let more = from.read(&mut input[done..])?;
         if more == 0 {
-            return Input::Bytes(done);
+            return Ok(done);
         }
         done += more;
     }
-    Input::Bytes(done)
+    Ok(done)
 }
 
-// Every line, and true; or those before the first that cannot be written, and false.
-fn print(outcome: Outcome, list: &[f32; 768]) -> bool {
+// Every line; or those before the first that cannot be written.
+fn print<W: Write>(to: &mut W, outcome: Outcome, list: &[f32; 768]) -> io::Result<()>
+    ensures { OnOk result (Appends (W.contents to.old) (W.contents to.new) (concat (printed 3 outcome list.now))) }
+{
     let many = lines::lines(outcome, list);
     let mut i = 0;
     while i < many {
-        if !print_line(outcome, list, i) {
-            return false;
-        }
+        print_line(to, outcome, list, i)?;
         i += 1;
     }
-    true
+    Ok(())
 }
 
-// Whether the line was written.
-fn print_line(outcome: Outcome, list: &[f32; 768], i: usize) -> bool {
+fn print_line<W: Write>(to: &mut W, outcome: Outcome, list: &[f32; 768], i: usize) -> io::Result<()>
+    ensures { OnOk result (Appends (W.contents to.old) (W.contents to.new) (get_or (printed 3 outcome list.now) i [])) }
+{
     let line = lines::line_at(outcome, list, i);
     let bytes = line.bytes;
     let len = line.len;
-    io::write_all(STDOUT_FILENO, &bytes[..len])
+    to.write_all(&bytes[..len])
 }

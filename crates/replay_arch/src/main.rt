@@ -2,9 +2,9 @@
 // function: answer, count and sides, every number of the list, to the bit, and that each work entry which no frame reaches is as it was.
 #![tactic(auto)]
 
-use libc::STDIN_FILENO;
 use params::{Outcome, Verdicts};
 use replay::{Compared, Walk};
+use std::io;
 
 // Entries of each lent work buffer, and the bytes of the longest file that a single call takes.
 const ROOM: usize = 2304;
@@ -33,14 +33,14 @@ const SINGLE: usize = 31;
 // Where arches are counted that were refused, behind those of each camera count.
 const REFUSED: usize = 21;
 
-fn main() {
+fn main(rt: HostRuntime) -> io::Result<()> {
     let mut input = vectors::room();
-    let got = io::read_full(STDIN_FILENO, &mut input);
-    replayed(&input[..got]);
+    let got = tell::read_full(&mut rt.stdin(), &mut input)?;
+    replayed(&rt, &input[..got])
 }
 
 // Every arch; then what was found.
-fn replayed(s: &[u8]) {
+fn replayed(rt: &impl Print, s: &[u8]) -> io::Result<()> {
     let mut walk = replay::start(s);
     let mut values: usize = 0;
     let mut arches = [0usize; 32];
@@ -50,18 +50,25 @@ fn replayed(s: &[u8]) {
         walk = replay::after(walk, c.next, c.wrong);
         values = vectors::plus(values, c.values);
     }
-    report(s, walk, values, &arches, &cameras);
+    report(rt, s, walk, values, &arches, &cameras)
 }
 
-fn report(s: &[u8], walk: Walk, values: usize, arches: &[usize; 32], cameras: &[usize; 32]) {
-    tell::head(s, walk);
-    tell::say(b"values compared", values);
-    tell::each(b"arches with a camera count of ", arches, 2, 9);
-    tell::say(b"arches answered 21", arches[REFUSED]);
-    tell::say(b"cameras", cameras[ALL]);
-    tell::each(b"of these answered ", cameras, 0, 16);
-    tell::say(b"of these held to a single call", cameras[SINGLE]);
-    tell::say(b"corners that they found", cameras[FOUND]);
+fn report(
+    rt: &impl Print,
+    s: &[u8],
+    walk: Walk,
+    values: usize,
+    arches: &[usize; 32],
+    cameras: &[usize; 32],
+) -> io::Result<()> {
+    tell::head(rt, s, walk)?;
+    tell::say(rt, b"values compared", values)?;
+    tell::each(rt, b"arches with a camera count of ", arches, 2, 9)?;
+    tell::say(rt, b"arches answered 21", arches[REFUSED])?;
+    tell::say(rt, b"cameras", cameras[ALL])?;
+    tell::each(rt, b"of these answered ", cameras, 0, 16)?;
+    tell::say(rt, b"of these held to a single call", cameras[SINGLE])?;
+    tell::say(rt, b"corners that they found", cameras[FOUND])
 }
 
 // So many more there.

@@ -3,9 +3,9 @@
 // which beyond.
 #![tactic(auto)]
 
-use libc::STDIN_FILENO;
 use params::{Outcome, Verdicts};
 use replay::Walk;
+use std::io;
 
 // No record has more corners than the program's list takes.
 const MOST: usize = 256;
@@ -23,10 +23,10 @@ struct Compared {
     beyond: usize,
 }
 
-fn main() {
+fn main(rt: HostRuntime) -> io::Result<()> {
     let mut input = vectors::room();
-    let got = io::read_full(STDIN_FILENO, &mut input);
-    replayed(&input[..got]);
+    let got = tell::read_full(&mut rt.stdin(), &mut input)?;
+    replayed(&rt, &input[..got])
 }
 
 fn nothing(at: usize) -> Compared {
@@ -51,7 +51,7 @@ fn then(a: Compared, b: Compared) -> Compared {
 }
 
 // Every record; then what was found.
-fn replayed(s: &[u8]) {
+fn replayed(rt: &impl Print, s: &[u8]) -> io::Result<()> {
     let mut walk = replay::start(s);
     let mut all = nothing(0);
     while replay::more(s, walk) {
@@ -59,14 +59,14 @@ fn replayed(s: &[u8]) {
         walk = replay::after(walk, c.next, c.wrong);
         all = then(all, c);
     }
-    report(s, walk, all);
+    report(rt, s, walk, all)
 }
 
-fn report(s: &[u8], walk: Walk, all: Compared) {
-    tell::head(s, walk);
-    tell::say(b"Gaussian places equal to the bit", all.equal);
-    tell::say(b"Gaussian places within 0.001", all.near);
-    tell::say(b"Gaussian places beyond", all.beyond);
+fn report(rt: &impl Print, s: &[u8], walk: Walk, all: Compared) -> io::Result<()> {
+    tell::head(rt, s, walk)?;
+    tell::say(rt, b"Gaussian places equal to the bit", all.equal)?;
+    tell::say(rt, b"Gaussian places within 0.001", all.near)?;
+    tell::say(rt, b"Gaussian places beyond", all.beyond)
 }
 
 // A record: a file, and its list.

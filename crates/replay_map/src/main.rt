@@ -2,21 +2,21 @@
 #![tactic(auto)]
 
 use frame::Reading;
-use libc::STDIN_FILENO;
 use replay::{Compared, Walk};
 use response::Mapped;
+use std::io;
 
 // No frame file of the list is longer.
 const LIMIT: usize = 2324;
 
-fn main() {
+fn main(rt: HostRuntime) -> io::Result<()> {
     let mut input = vectors::room();
-    let got = io::read_full(STDIN_FILENO, &mut input);
-    replayed(&input[..got]);
+    let got = tell::read_full(&mut rt.stdin(), &mut input)?;
+    replayed(&rt, &input[..got])
 }
 
 // Every record; then what was found.
-fn replayed(s: &[u8]) {
+fn replayed(rt: &impl Print, s: &[u8]) -> io::Result<()> {
     let mut walk = replay::start(s);
     let mut values: usize = 0;
     while replay::more(s, walk) {
@@ -24,12 +24,12 @@ fn replayed(s: &[u8]) {
         walk = replay::after(walk, c.next, c.wrong);
         values = vectors::plus(values, c.values);
     }
-    report(s, walk, values);
+    report(rt, s, walk, values)
 }
 
-fn report(s: &[u8], walk: Walk, values: usize) {
-    tell::head(s, walk);
-    tell::say(b"values compared", values);
+fn report(rt: &impl Print, s: &[u8], walk: Walk, values: usize) -> io::Result<()> {
+    tell::head(rt, s, walk)?;
+    tell::say(rt, b"values compared", values)
 }
 
 // A record: a file, and what its map is.

@@ -4,9 +4,9 @@
 
 ghost use Rattle.std.specs.Prelude.{◌≡◌, min, length, take};
 
-use libc::STDIN_FILENO;
 use params::Outcome;
 use replay::Walk;
+use std::io;
 
 // Where a corner's line has its strength, and how long that line is.
 const STRENGTH: usize = 18;
@@ -21,14 +21,14 @@ struct Compared {
     places: usize,
 }
 
-fn main() {
+fn main(rt: HostRuntime) -> io::Result<()> {
     let mut input = vectors::room();
-    let got = io::read_full(STDIN_FILENO, &mut input);
-    replayed(&input[..got]);
+    let got = tell::read_full(&mut rt.stdin(), &mut input)?;
+    replayed(&rt, &input[..got])
 }
 
 // Every record; then what was found.
-fn replayed(s: &[u8]) {
+fn replayed(rt: &impl Print, s: &[u8]) -> io::Result<()> {
     let mut walk = replay::start(s);
     let mut exact: usize = 0;
     let mut lists: usize = 0;
@@ -40,14 +40,21 @@ fn replayed(s: &[u8]) {
         lists = vectors::plus(lists, vectors::differ(c.places as u64, 0));
         places = vectors::plus(places, c.places);
     }
-    report(s, walk, exact, lists, places);
+    report(rt, s, walk, exact, lists, places)
 }
 
-fn report(s: &[u8], walk: Walk, exact: usize, lists: usize, places: usize) {
-    tell::head(s, walk);
-    tell::say(b"records that agree to the bit", exact);
-    tell::say(b"Gaussian lists in which places differ", lists);
-    tell::say(b"corners whose places differ there", places);
+fn report(
+    rt: &impl Print,
+    s: &[u8],
+    walk: Walk,
+    exact: usize,
+    lists: usize,
+    places: usize,
+) -> io::Result<()> {
+    tell::head(rt, s, walk)?;
+    tell::say(rt, b"records that agree to the bit", exact)?;
+    tell::say(rt, b"Gaussian lists in which places differ", lists)?;
+    tell::say(rt, b"corners whose places differ there", places)
 }
 
 // 1 where nothing differs.

@@ -2,9 +2,9 @@
 // what it wrote, to the bit, and that every other entry of the lent buffer is as it was.
 #![tactic(auto)]
 
-use libc::STDIN_FILENO;
 use params::Outcome;
 use replay::Walk;
+use std::io;
 
 // What a vector is: a record that is read, or a list that is written.
 const READ: u64 = 0;
@@ -26,14 +26,14 @@ const MAX_SIDE: usize = 65535;
 // Where all calls are counted, behind those of each answer.
 const ALL: usize = 31;
 
-fn main() {
+fn main(rt: HostRuntime) -> io::Result<()> {
     let mut input = vectors::room();
-    let got = io::read_full(STDIN_FILENO, &mut input);
-    replayed(&input[..got]);
+    let got = tell::read_full(&mut rt.stdin(), &mut input)?;
+    replayed(&rt, &input[..got])
 }
 
 // Every vector; then what was found.
-fn replayed(s: &[u8]) {
+fn replayed(rt: &impl Print, s: &[u8]) -> io::Result<()> {
     let mut walk = replay::start(s);
     let mut reads = [0usize; 32];
     let mut writes = [0usize; 32];
@@ -43,7 +43,7 @@ fn replayed(s: &[u8]) {
         count(&mut reads, READ, c);
         count(&mut writes, WRITE, c);
     }
-    report(s, walk, &reads, &writes);
+    report(rt, s, walk, &reads, &writes)
 }
 
 // One call more of that answer, if the vector is of that kind.
@@ -55,16 +55,22 @@ fn count(calls: &mut [usize; 32], kind: u64, c: Compared) {
     }
 }
 
-fn report(s: &[u8], walk: Walk, reads: &[usize; 32], writes: &[usize; 32]) {
-    tell::head(s, walk);
-    tell_calls(b"reads", reads);
-    tell_calls(b"writes", writes);
+fn report(
+    rt: &impl Print,
+    s: &[u8],
+    walk: Walk,
+    reads: &[usize; 32],
+    writes: &[usize; 32],
+) -> io::Result<()> {
+    tell::head(rt, s, walk)?;
+    tell_calls(rt, b"reads", reads)?;
+    tell_calls(rt, b"writes", writes)
 }
 
-fn tell_calls(name: &[u8], calls: &[usize; 32]) {
-    tell::say(name, calls[ALL]);
-    tell::each(b"of these answered ", calls, 0, 1);
-    tell::each(b"of these answered ", calls, 16, 21);
+fn tell_calls(rt: &impl Print, name: &[u8], calls: &[usize; 32]) -> io::Result<()> {
+    tell::say(rt, name, calls[ALL])?;
+    tell::each(rt, b"of these answered ", calls, 0, 1)?;
+    tell::each(rt, b"of these answered ", calls, 16, 21)
 }
 
 // What was compared, and the place behind it: how many things disagree, what the vector is, and what it was answered.

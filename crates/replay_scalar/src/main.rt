@@ -4,8 +4,8 @@
 
 ghost use Rattle.std.specs.Prelude.{◌≤◌};
 
-use libc::{STDIN_FILENO, STDOUT_FILENO};
 use scalar::{Log, Root};
+use std::io;
 
 // What stands for the answer "outside": a NaN's pattern, which no answer has.
 const OUTSIDE: u64 = 4294967295;
@@ -34,14 +34,14 @@ struct Tally {
     first: usize,
 }
 
-fn main() {
-    let mut input = io::large_buffer();
-    let got = io::read_full(STDIN_FILENO, &mut input);
-    replayed(&input[..got]);
+fn main(rt: HostRuntime) -> io::Result<()> {
+    let mut input = [0u8; 65536];
+    let got = tell::read_full(&mut rt.stdin(), &mut input)?;
+    replayed(&rt, &input[..got])
 }
 
 // The roots, then the logarithms, each after the number of them.
-fn replayed(s: &[u8]) {
+fn replayed(rt: &impl Print, s: &[u8]) -> io::Result<()> {
     let roots = vectors::after_line(s);
     let many_roots = count(s, roots);
     let first_root = vectors::skip(s, roots, 4);
@@ -49,20 +49,23 @@ fn replayed(s: &[u8]) {
     let many_logs = count(s, logs);
     let first_log = vectors::skip(s, logs, 4);
     report(
+        rt,
         b"roots that agree:",
         many_roots,
         counted(s, Kind::Root, first_root, many_roots),
-    );
+    )?;
     report(
+        rt,
         b"logarithms that agree:",
         many_logs,
         counted(s, Kind::Log, first_log, many_logs),
-    );
+    )?;
     report(
+        rt,
         b"logarithms within 2^-19 of L:",
         many_logs,
         counted(s, Kind::Near, first_log, many_logs),
-    );
+    )
 }
 
 // The number of records that stands at a place, at most 4096.
@@ -171,15 +174,11 @@ fn log_bits(x: u64) -> u64 {
 }
 
 // A line for a kind of vector: how many agree, of how many, and where the first does not, counted from 0.
-fn report(name: &[u8], many: usize, t: Tally) {
-    io::write_all(STDOUT_FILENO, name);
-    io::write_all(STDOUT_FILENO, b" ");
-    io::print_decimal(STDOUT_FILENO, t.agree as u64);
-    io::write_all(STDOUT_FILENO, b" of ");
-    io::print_decimal(STDOUT_FILENO, many as u64);
+fn report(rt: &impl Print, name: &[u8], many: usize, t: Tally) -> io::Result<()> {
+    rt.write_all(name)?;
+    print!(rt; " {} of {many}", t.agree)?;
     if t.first < many {
-        io::write_all(STDOUT_FILENO, b"; the first that does not is number ");
-        io::print_decimal(STDOUT_FILENO, t.first as u64);
+        print!(rt; "; the first that does not is number {}", t.first)?;
     }
-    io::write_all(STDOUT_FILENO, b"\n");
+    rt.write_all(b"\n")
 }

@@ -1,37 +1,69 @@
-// What is told of a replay, on standard output.
+// What the replay programs read, on standard input, and what they tell of a replay, on standard output.
 #![tactic(auto)]
 
-use libc::STDOUT_FILENO;
+ghost use Rattle.std.specs.Prelude.{◌≡◌, take, length, IfOk, IfSome};
+ghost use Rattle.std.specs.Io.{ReadsAtMost};
+
 use replay::Walk;
+use std::io;
+use std::io::Read;
 use vectors::{after_line, part};
 
-// The list's own line, the number of records, and how many disagree.
-pub fn head(s: &[u8], w: Walk) {
-    let tally = w.tally;
-    io::write_all(STDOUT_FILENO, part(s, 0, after_line(s)));
-    say(b"records", tally.records);
-    say(b"records that disagree", tally.wrong);
-    if tally.wrong > 0 {
-        say(b"number of the first that disagrees, from 0", tally.first);
+// Reads until there is no more room or the input ends, and answers how many bytes now stand at the front of the room: as many of the input's.
+pub fn read_full<R: Read>(input: &mut R, room: &mut [u8]) -> io::Result<usize>
+    ensures within { ReadsAtMost result room.new }
+    ensures front { IfOk result (λ n. IfSome (R.remaining input.old)
+        (λ given. take n room.new ≡ take (length room.new) given)) }
+{
+    let mut done: usize = 0;
+    while done < room.len() {
+        let more = input.read(&mut room[done..])?;
+        if more == 0 {
+            return Ok(done);
+        }
+        done += more;
     }
+    Ok(done)
+}
+
+// The list's own line, the number of records, and how many disagree.
+pub fn head(rt: &impl Print, s: &[u8], w: Walk) -> io::Result<()> {
+    let tally = w.tally;
+    rt.write_all(part(s, 0, after_line(s)))?;
+    say(rt, b"records", tally.records)?;
+    say(rt, b"records that disagree", tally.wrong)?;
+    if tally.wrong > 0 {
+        say(
+            rt,
+            b"number of the first that disagrees, from 0",
+            tally.first,
+        )?;
+    }
+    Ok(())
 }
 
 // A line with a name and a number.
-pub fn say(name: &[u8], n: usize) {
-    io::write_all(STDOUT_FILENO, name);
-    io::write_all(STDOUT_FILENO, b": ");
-    io::print_decimal(STDOUT_FILENO, n as u64);
-    io::write_all(STDOUT_FILENO, b"\n");
+pub fn say(rt: &impl Print, name: &[u8], n: usize) -> io::Result<()> {
+    rt.write_all(name)?;
+    rt.write_all(b": ")?;
+    rt.println(n)
 }
 
 // A line for each count from one place on and before another: a name, the place and the count.
-pub fn each(name: &[u8], counts: &[usize; 32], from: usize, to: usize) {
+pub fn each(
+    rt: &impl Print,
+    name: &[u8],
+    counts: &[usize; 32],
+    from: usize,
+    to: usize,
+) -> io::Result<()> {
     let end = vectors::capped(to as u64, 32);
     let mut i = from;
     while i < end {
-        io::write_all(STDOUT_FILENO, name);
-        io::print_decimal(STDOUT_FILENO, i as u64);
-        say(b"", counts[i]);
+        rt.write_all(name)?;
+        rt.print(i)?;
+        say(rt, b"", counts[i])?;
         i += 1;
     }
+    Ok(())
 }

@@ -1,2 +1,3 @@
 -- What the functions' proofs cite.
-pub mod Copying
+pub mod Reading
+pub mod Printing
