@@ -1,5 +1,4 @@
 -- `arch::run_cameras` meets its contract: a turn runs one camera over its share, and goes on behind its frame. Assumes nothing.
-use Prim.Native.Nat.{◌-◌}
 use native.Mathlib.Omega.{arith}
 use Rattle.arch.proofs.Cameras.{ran_none, next_in, ran_turn}
 use Rattle.arch.proofs.run_cameras.Goals as goal

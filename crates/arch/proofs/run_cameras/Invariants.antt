@@ -1,5 +1,4 @@
 -- `arch::run_cameras` meets its contract: a turn runs one camera over its share, and goes on behind its frame. Assumes nothing.
-use Prim.Native.Nat.{◌-◌}
 use Rattle.radon.specs.Finder.{lent}
 use Rattle.arch.proofs.Cameras.{Ran}
 use Rattle.arch.proofs.run_cameras.Given as goal

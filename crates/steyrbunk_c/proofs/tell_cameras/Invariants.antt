@@ -1,5 +1,4 @@
 -- `steyrbunk_c::tell_cameras` meets its contract: a turn tells one camera. Assumes nothing.
-use Prim.Native.Nat.{◌-◌}
 use Rattle.steyrbunk_c.proofs.Cameras.{Telling}
 use Rattle.steyrbunk_c.proofs.tell_cameras.Given as goal
 
