@@ -98,7 +98,7 @@ fn next_in_row(
     to: usize,
     tally: &mut [usize],
 ) -> usize
-    requires le_from { (1 ≤ from) × (from ≤ to) × (to < scan.w) × (scan.w ≤ 8192) × (y * scan.w + scan.w ≤ length resp.now) }
+    requires within_row { (1 ≤ from) × (from ≤ to) × (to < scan.w) × (scan.w ≤ 8192) × (y * scan.w + scan.w ≤ length resp.now) }
     requires tally { Tally tally.old (8192 * 8192) }
     ensures { NextInRow scan resp.now y from to result tally.old tally.new }
 {

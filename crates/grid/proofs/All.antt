@@ -1,4 +1,4 @@
--- `all P l`: P holds of every entry of l. What a filter, a search or a fold says of a list depends on its entries alone. Assumes nothing.
+-- `All P l`: P holds of every entry of l. What a filter, a search or a fold says of a list depends on its entries alone. Assumes nothing.
 use mathlib.Core.Path.{◌≡◌, refl, ap, ◌∙◌}
 use mathlib.Core.Bool.{Bool, true, false, ◌||◌}
 use mathlib.Core.List.{List, [], ◌∷◌, ◌++◌, foldl}

@@ -6,7 +6,7 @@ use Rattle.detect.proofs.peaks.next_in_row.Goals as goal
 
 pub overflow_add-tally : goal.overflow_add-tally
 overflow_add-tally c =
-    let p = c.requires.le_from in
+    let p = c.requires.within_row in
     omega (
       arith,
       p.3,
@@ -16,5 +16,5 @@ overflow_add-tally c =
 
 pub returns : goal.returns
 returns c =
-    let p = c.requires.le_from in
+    let p = c.requires.within_row in
     next_is c.args.scan c.args.resp.now c.args.y p.4 p.0 p.1 p.2 c.next_candidate-next.ensures refl
