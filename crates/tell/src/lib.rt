@@ -1,30 +1,9 @@
-// What the replay programs read, on standard input, and what they tell of a replay, on standard output.
+// What the replay programs tell of a replay, on standard output.
 #![tactic(auto)]
-
-ghost use Rattle.std.specs.Prelude.{◌≡◌, take, length, IfOk, IfSome};
-ghost use Rattle.std.specs.Io.{ReadsAtMost};
 
 use replay::Walk;
 use std::io;
-use std::io::Read;
 use vectors::{after_line, part};
-
-// Reads until there is no more room or the input ends, and answers how many bytes now stand at the front of the room: as many of the input's.
-pub fn read_full<R: Read>(input: &mut R, room: &mut [u8]) -> io::Result<usize>
-    ensures within { ReadsAtMost result room.new }
-    ensures front { IfOk result (λ n. IfSome (R.remaining input.old)
-        (λ given. take n room.new ≡ take (length room.new) given)) }
-{
-    let mut done: usize = 0;
-    while done < room.len() {
-        let more = input.read(&mut room[done..])?;
-        if more == 0 {
-            return Ok(done);
-        }
-        done += more;
-    }
-    Ok(done)
-}
 
 // The list's own line, the number of records, and how many disagree.
 pub fn head(rt: &impl Print, s: &[u8], w: Walk) -> io::Result<()> {
