@@ -24,8 +24,8 @@ const OLD_WORD: u32 = 0xa5a5_a5a5;
 
 const OLD_NUMBER: u64 = 0xa5a5_0000;
 
-// What was found: arches by their camera count and those refused; cameras by their answers, all of them, those held to a single call, and their
-// corners. A count stands at its number, as a list states it.
+// What was found: arches by their camera count, and those refused; cameras by the number of their answer, all of them, those held to a single call,
+// and their corners.
 #[derive(Clone, Copy, Default)]
 struct Found {
     arches: [usize; 32],
@@ -95,7 +95,7 @@ fn record(s: &[u8], at: usize, found: &mut Found) -> Compared {
         &mut scratch,
         &mut list[0..room],
     );
-    let reached = capped(field(s, due, 8), ROOM);
+    let reached = field(s, due, 8);
     let beyond = kept(&working, reached)
         .then(kept(&row, reached))
         .then(kept(&col, reached))
@@ -132,11 +132,9 @@ fn old_numbers() -> [f32; 1024] {
 }
 
 // A work buffer, from the entry on that no frame reaches.
-fn kept<T: Entry>(buffer: &[T; 2304], from: usize) -> Compared {
-    let rest = match buffer.get(from..) {
-        Some(rest) => rest,
-        None => &[],
-    };
+fn kept<T: Entry>(buffer: &[T; 2304], reached: u64) -> Compared {
+    let whole = &buffer[..];
+    let rest = &whole[capped(reached, ROOM)..];
     replay::compare(&[OLD; 9216], 0, rest, rest.len())
 }
 
