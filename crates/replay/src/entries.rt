@@ -105,6 +105,7 @@ pub fn compare<T: Entry>(s: &[u8], at: usize, buffer: &[T], n: usize) -> Compare
 {
     let mut next = at;
     let mut wrong: usize = 0;
+    // Indexed: an entry past the buffer's end is compared too, as none.
     for i in 0..n {
         let found = T::entry(buffer, i);
         wrong = plus(wrong, differ(found, T::listed(s, next)));

@@ -62,6 +62,7 @@ pub fn field(s: &[u8], at: usize, n: usize) -> u64
 pub fn part(s: &[u8], from: usize, to: usize) -> &[u8]
     ensures { Part s.entry from to result }
 {
+    // Not by `get`: its contract has a part's values, and not where it lies.
     let n = s.len();
     if to > n {
         return &s[n..];
