@@ -1,5 +1,5 @@
 -- Whether one of some numbers is not finite: std's words for it, as those of the definitions. Assumes nothing.
-use Rattle.std.proofs.Common.{◌≡◌, refl, ap, ℕ, zero, suc, ◌+◌, ◌-◌, Bool, ◌||◌, not, List, [], ◌∷◌, Float, add-one}
+use Rattle.std.proofs.Common.{◌≡◌, refl, ap, ℕ, zero, suc, Bool, ◌||◌, not, List, [], ◌∷◌, Float, add-one}
 use native.Mathlib.Nat.{sub-zero}
 use Rattle.std.specs.Float.{nan, float_is_finite}
 use Rattle.std.specs.Float.Ieee.{inf, fin}
