@@ -11,7 +11,7 @@ const LIMIT: usize = 2324;
 
 fn main(rt: HostRuntime) -> io::Result<()> {
     let mut input = vectors::room();
-    let got = tell::read_full(&mut rt.stdin(), &mut input)?;
+    let got = input::read_full(&mut rt.stdin(), &mut input)?;
     replayed(&rt, &input[..got])
 }
 
