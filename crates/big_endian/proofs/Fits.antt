@@ -37,8 +37,8 @@ module _ (at : ℕ) (bytes old : List ℕ) where
 
 -- ---- the bytes of a number
 
-pub half-is : (n : ℕ) → n < 65536 → to_be_bytes w16 n ≡ half_bytes n
-half-is n h = ap (λ (b : ℕ). b ∷ n % 256 ∷ []) (omega arith)
+pub half_is : (n : ℕ) → n < 65536 → to_be_bytes w16 n ≡ half_bytes n
+half_is n h = ap (λ (b : ℕ). b ∷ n % 256 ∷ []) (omega arith)
 
-pub word-is : (n : ℕ) → n < 4294967296 → to_be_bytes w32 n ≡ word_bytes n
-word-is n h = ap (λ (b : ℕ). b ∷ n / 65536 % 256 ∷ n / 256 % 256 ∷ n % 256 ∷ []) (omega arith)
+pub word_is : (n : ℕ) → n < 4294967296 → to_be_bytes w32 n ≡ word_bytes n
+word_is n h = ap (λ (b : ℕ). b ∷ n / 65536 % 256 ∷ n / 256 % 256 ∷ n % 256 ∷ []) (omega arith)

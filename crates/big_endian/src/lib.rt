@@ -43,6 +43,7 @@ fn put(out: &mut [u8], at: usize, bytes: &[u8])
 }
 
 // A number below 65,536 as two bytes.
+#[tactic(auto, using(crate::proofs::Fits::half_is))]
 pub fn put_half(out: &mut [u8], at: usize, n: u16)
     ensures { out.new ≡ put_at at (half_bytes n) out.old }
 {
@@ -50,6 +51,7 @@ pub fn put_half(out: &mut [u8], at: usize, n: u16)
 }
 
 // A number as four bytes.
+#[tactic(auto, using(crate::proofs::Fits::word_is))]
 pub fn put_word(out: &mut [u8], at: usize, n: u32)
     ensures { out.new ≡ put_at at (word_bytes n) out.old }
 {
