@@ -16,6 +16,7 @@ pub fn byte_at(s: &[u8], at: usize) -> u32
 }
 
 // Two bytes, the higher first.
+// Byte by byte: `from_be_bytes` takes no array with a byte past the end.
 pub fn half_at(s: &[u8], at: usize) -> u32
     ensures { (result ≡ half_at s.now at) × (result < 65536) }
 {

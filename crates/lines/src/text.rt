@@ -51,6 +51,7 @@ impl Line {
     }
 
     // The numeral of n, with at least so many digits.
+    // By hand: the contract of `write!` leaves open whether it gives an `Err`, and a line (`line_at`) never fails.
     fn number(&mut self, base: usize, least: usize, n: usize)
         requires { (2 ≤ base) × (base ≤ 16) × (self.old.len + length (numeral base least n) ≤ 64) }
         ensures { self.new ≡ appended self.old (numeral base least n) }

@@ -77,6 +77,7 @@ fn judge_record(file: &[u8], room: usize) -> Result<(), Answer>
 }
 
 // The first n numbers of a record into a list.
+// Indexed: what a list holds after `iter_mut().enumerate()` no clause knows.
 fn fill(file: &[u8], n: usize, list: &mut [f32])
     requires { (n ≤ length list.old) × (n ≤ 12884901885) }
     ensures { list.new ≡ filled n (number_in file.now) list.old }
