@@ -7,11 +7,11 @@ use native.Mathlib.Numerals.{add-one}
 use native.Mathlib.Omega.{arith}
 use lib.Ieee.{Float, nan, binary32, to_bits}
 use lib.ListN.{length, get_or, set, take, length-set}
-use lib.Seq.{sets, take-suc, take_all, length-take-le}
+use lib.Seq.{sets, take-suc, length-take-le}
 use Rattle.grid.specs.Over.{over}
 use Rattle.grid.proofs.Each.{each_none, each_more, length-each}
 use Rattle.grid.proofs.Over.{over_none, over_sets}
-use Rattle.grid.proofs.Loops.{Steps, steps_all}
+use Rattle.grid.proofs.Loops.{Steps}
 use Rattle.big_endian.specs.BigEndian.{half_bytes, word_bytes, put_at}
 use Rattle.big_endian.proofs.Fits.{put_plain, length-put}
 use Rattle.record.specs.Record.{head, head_of, corners_in, whole_of, bytes_of, record_of}
@@ -85,9 +85,6 @@ module _ (l : List Float) where
         turn : sets (sets old head (bytes_of (take i l))) (head + 4 * i) (enc (get_or l i nan))
             ≡ sets old head (bytes_of (take i l) ++ enc (get_or l i nan))
         turn = rw at (sets_more (bytes_of (take i l)) (enc (get_or l i nan)) old head)
-
-  pub putting_all : {old out : List ℕ} {i : ℕ} → Putting l old out i → length l ≤ i → out ≡ sets old head (bytes_of l)
-  putting_all {old} r m = steps_all r m ∙ ap (λ (t : List Float). sets old head (bytes_of t)) (take_all (length l) l (omega arith))
 
 -- ---- both
 
