@@ -6,7 +6,7 @@ use native.Mathlib.Nat.{add_assoc, add-zero, zero-add, suc-sub-suc, sub-zero, ze
 use native.Mathlib.Numerals.{add-one}
 use native.Mathlib.Omega.{arith}
 use lib.ListN.{length, get_or, take, replicate, drop, length-append, length-replicate}
-use lib.Seq.{sets, sets-eq, take-suc, take_all, length-take-le}
+use lib.Seq.{sets, sets-eq, take-suc, length-take-le}
 use Rattle.lines.specs.declared.Line.{Line}
 use Rattle.lines.specs.Printed.{ascii, row}
 use Rattle.lines.specs.Lines.{line_of, Shows, blank, appended, Grown}
@@ -101,6 +101,3 @@ module _ (line : Line) (s : List ℕ) where
             e ∙ ap (λ (l : Line). appended l (get_or s i 0 ∷ [])) c.is
             ∙ appended_more line (take i s) (get_or s i 0 ∷ [])
             ∙ ap (appended line) (sym (take-suc s i 0 h) ∙ ap (λ (n : ℕ). take n s) (sym (add-one i)))
-
-    pub copied_all : length s ≤ i → longer ≡ appended line s
-    copied_all h = c.is ∙ ap (appended line) (take_all i s h)

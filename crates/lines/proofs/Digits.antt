@@ -4,14 +4,13 @@ use mathlib.Core.Path.{◌≡◌, sym, ap, ◌∙◌}
 use mathlib.Core.Bool.{Bool, true, false}
 use mathlib.Core.List.{[], ◌∷◌, ◌++◌}
 use Prim.Native.Nat.{ℕ, ◌+◌, ◌-◌, ◌/◌, ◌%◌, ◌≤◌, ◌<◌}
-use native.Mathlib.Nat.{lt_of_lt_of_le, mod-lt}
 use native.Mathlib.Omega.{arith}
 use lib.Dec.{lit≤}
 use lib.ListN.{length, length-append}
 use Rattle.lines.specs.declared.Line.{Line}
 use Rattle.lines.specs.Printed.{digit_of, numeral}
 use Rattle.lines.specs.Lines.{Short, appended, Grown}
-use Rattle.lines.proofs.Numerals.{single, single_yes, falls}
+use Rattle.lines.proofs.Numerals.{single, falls}
 use Rattle.lines.proofs.Numerals.{numeral_last, numeral_more, numeral-some, numeral-most}
 use Rattle.lines.proofs.Appended.{appended_more, appended_len}
 
@@ -27,9 +26,6 @@ module _ {line : Line} {base least n t : ℕ} (due : Due line base least n t)
   -- ---- one digit
 
   module _ (yes : one ≡ true) where
-    pub last_digit : n < 16
-    last_digit = lt_of_lt_of_le (single_yes base least n (sym is ∙ yes)).0 due.most
-
     pub last_room : line.len < 64
     last_room = omega (arith, due.room, numeral-some base due.two least n)
 
@@ -42,9 +38,6 @@ module _ {line : Line} {base least n t : ℕ} (due : Due line base least n t)
   -- ---- the digits before the last, m of them at least, and the last
 
   module _ (no : one ≡ false) where
-    pub next_digit : n % base < 16
-    next_digit = lt_of_lt_of_le (mod-lt n (omega (arith, due.two))) due.most
-
     module _ {m : ℕ} (less : m ≡ least - 1) where
       long : length (numeral base least n) ≡ length (numeral base m (n / base)) + 1
       long =
@@ -94,9 +87,6 @@ module _ {base least n : ℕ} (s : Short base least n) (line : Line) where
     most = omega (arith, most, length-append (numeral base least n) (end ∷ []));
   }
 
--- a machine number in decimal, and 32 bits in eight digits
+-- a machine number in decimal
 pub decimal-short : (n : ℕ) → n < 18446744073709551616 → Short 10 1 n
 decimal-short n h = record { two = lit≤ tt; most = lit≤ tt; few = lit≤ tt; small = omega arith }
-
-pub word-short : (n : ℕ) → n < 4294967296 → Short 16 8 n
-word-short n h = record { two = lit≤ tt; most = lit≤ tt; few = lit≤ tt; small = omega arith }
