@@ -204,8 +204,3 @@ no_nan_pattern c h =
     (not_T (ltb 2139095040 (c % 2147483648))
     (λ (t : T (ltb 2139095040 (c % 2147483648))). not-le_of_lt (ltb→lt 2139095040 (c % 2147483648) t) h))
 
-pub no_nan_value : (x : Float) → ne x x ≡ false → T (not (is_nan x))
-unfolding ne is_nan
-no_nan_value nan e = subst (λ (b : Bool). T (not b)) (sym e) tt
-no_nan_value (inf s) e = tt
-no_nan_value (fin s m k) e = tt

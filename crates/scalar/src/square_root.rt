@@ -66,8 +66,8 @@ fn scaled_low(b: u32) -> Scaling
     let mut n = (b as u64) * WIDE_FIELD;
     let mut h = 63u32;
     while n < LEAST_SCALED {
-        n = n * 4;
-        h = h - 1;
+        n *= 4;
+        h -= 1;
     }
     Scaling { n, h }
 }
