@@ -5,6 +5,8 @@
 #![tactic(auto)]
 
 ghost use Rattle.std.specs.Prelude.{◌≡◌, ◌+◌, ◌≤◌, length};
+ghost use Rattle.std.specs.Float.{nan};
+ghost use Rattle.std.specs.Option.{unwrap_or};
 ghost use Rattle.std.proofs.lemmas.List.Edits.{sets};
 ghost use Rattle.grid.specs.Each.{each};
 ghost use Rattle.scalar.specs.Log.{log_of, terms, high};
@@ -16,7 +18,6 @@ ghost use Rattle.arch.specs.Arch.{arch_outcome, arch_buffers};
 ghost use Rattle.record.specs.Record.{version, stride, write_outcome, written, read_outcome, read_back};
 ghost use Rattle.steyrbunk_c.specs.Called.{settings_of, map_settings, reported, told, map_reported, map_told, verdict_numbers, camera_numbers};
 ghost use Rattle.steyrbunk_c.specs.Called.{called_outcome, called_buffers, called_peaks, called_list};
-ghost use Rattle.steyrbunk_c.specs.OrNan.{or_nan};
 
 use arch::run_arch;
 use params::{Answer, NumberedMode, Outcome, PeakFitMode, RadonDetectorParams, Verdicts};
@@ -310,7 +311,7 @@ pub extern "C" fn steyrbunk_read_record(
 // The square root. NaN stands for none, here and below.
 #[unsafe(no_mangle)]
 pub extern "C" fn steyrbunk_sqrt(x: f32) -> f32
-    ensures { result ≡ or_nan (root_of x) }
+    ensures { result ≡ unwrap_or (root_of x) nan }
 {
     scalar::sqrt(x).unwrap_or(f32::NAN)
 }
@@ -318,7 +319,7 @@ pub extern "C" fn steyrbunk_sqrt(x: f32) -> f32
 // The logarithm.
 #[unsafe(no_mangle)]
 pub extern "C" fn steyrbunk_ln(x: f32) -> f32
-    ensures { result ≡ or_nan (log_of terms high x) }
+    ensures { result ≡ unwrap_or (log_of terms high x) nan }
 {
     scalar::ln(x).unwrap_or(f32::NAN)
 }
