@@ -11,7 +11,7 @@ const REACHES: [usize; 8] = [0, 0x11, 0x12, 0x223, 0x2334, 0x34445, 0x345556, 0x
 // The reaches of the radius k, looked up once for a disk, so that a row costs a shift.
 #[derive(Clone, Copy)]
 pub struct Disk {
-    k: usize,
+    pub k: usize,
     reaches: usize,
     ghost small: { k ≤ 7 },
     ghost packed: { Packs k reaches },

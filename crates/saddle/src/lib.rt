@@ -5,7 +5,7 @@
 // square: on a square a thin line along a diagonal shows in the xy term alone, and would pass.
 #![tactic(auto)]
 
-ghost use Rattle.std.specs.Prelude.{◌≡◌, cond, ◌+◌, ◌*◌, ◌≤◌, ◌<◌, length};
+ghost use Rattle.std.specs.Prelude.{◌≡◌, cond, ◌+◌, ◌*◌, ◌<◌, length};
 ghost use Rattle.grid.specs.Ways.{pixel};
 ghost use Rattle.saddle.specs.Saddle.{moments_of, norms_of, saddle_of, saddle_numbers};
 ghost use Rattle.saddle.specs.Saddle.{sums_of, by_curvatures, judge, saddle_at, disk_fits};
@@ -90,11 +90,9 @@ fn disk_norms(mean: f32, disk: Disk) -> Sums
     })
 }
 
-fn numbers_of(k: usize) -> SaddleTest
-    requires { k ≤ 7 }
-    ensures { result ≡ saddle_of k }
+fn numbers_of(disk: Disk) -> SaddleTest
+    ensures { result ≡ saddle_of disk.k }
 {
-    let disk = Disk::new(k);
     let m = disk_moments(disk);
     let mean_r2 = m.r2 / m.n;
     let n = disk_norms(mean_r2, disk);
@@ -111,25 +109,27 @@ pub fn new(k: usize) -> SaddleTest
     ensures { result ≡ saddle_numbers k }
 {
     if (1 <= k) & (k <= 7) {
-        return numbers_of(k);
-    }
-    SaddleTest {
-        mean_r2: 0.0,
-        inv_u: 0.0,
-        inv_v: 0.0,
-        inv_xy: 0.0,
+        numbers_of(Disk::new(k))
+    } else {
+        SaddleTest {
+            mean_r2: 0.0,
+            inv_u: 0.0,
+            inv_v: 0.0,
+            inv_xy: 0.0,
+        }
     }
 }
 
 // Each pixel of the disk around x, y is added to the three sums, in the order of the places. A disk is the same from
 // four sides, so 1, r² - mean, x² - y² and xy are orthogonal to each other, and each coefficient is one projection.
-fn project(t: SaddleTest, k: usize, image: &[u8], w: usize, h: usize, x: usize, y: usize) -> Sums
-    requires { Around k (length image.now) w h x y }
-    ensures { result ≡ sums_of t k (pixel image.now w) x y }
+fn project(t: SaddleTest, disk: Disk, image: &[u8], w: usize, h: usize, x: usize, y: usize) -> Sums
+    requires { Around disk.k (length image.now) w h x y }
+    ensures { result ≡ sums_of t disk.k (pixel image.now w) x y }
 {
-    let (left, top) = (x - k, y - k);
-    Disk::new(k).fold(
+    let (left, top) = (x - disk.k, y - disk.k);
+    disk.fold(
         NO_SUMS,
+        // A side is at most 8,192, and the pixel is in the image.
         |s, ix, iy, dx, dy|
             requires { (top + iy < 8192) × ((top + iy) * w + left + ix < length image.now) }
         {
@@ -147,11 +147,10 @@ fn project(t: SaddleTest, k: usize, image: &[u8], w: usize, h: usize, x: usize, 
 
 // The curvatures are (tr + spread) / 2 and (tr - spread) / 2. They have opposite signs, and the smaller is at least the
 // ratio times the larger, just where |tr| (1 + ratio) ≤ spread (1 - ratio). What fails both tests is told as flat.
-fn compared(k: usize, tr: f32, spread: f32) -> Saddle
-    requires { k ≤ 7 }
-    ensures { result ≡ by_curvatures k tr spread }
+fn compared(disk: Disk, tr: f32, spread: f32) -> Saddle
+    ensures { result ≡ by_curvatures disk.k tr spread }
 {
-    let kk = (k * k) as u16 as f32;
+    let kk = (disk.k * disk.k) as u16 as f32;
     let steep = spread * kk >= MIN_SADDLE_SPREAD;
     let even = tr.abs() * (1.0 + MIN_SADDLE_RATIO) <= spread * (1.0 - MIN_SADDLE_RATIO);
     if !steep {
@@ -165,16 +164,15 @@ fn compared(k: usize, tr: f32, spread: f32) -> Saddle
 
 // The image is near p (x² + y²) + q (x² - y²) + b xy, so its second derivatives are 2 (p + q) along x, 2 (p - q) along
 // y and b across: their trace is 4 p, and the curvatures differ by the root of (4 q)² + 4 b².
-fn judged(t: SaddleTest, k: usize, s: Sums) -> Saddle
-    requires { k ≤ 7 }
-    ensures { result ≡ judge t k s }
+fn judged(t: SaddleTest, disk: Disk, s: Sums) -> Saddle
+    ensures { result ≡ judge t disk.k s }
 {
     let p = s.u * t.inv_u;
     let q = s.v * t.inv_v;
     let b = s.xy * t.inv_xy;
     let tr = 4.0 * p;
     match scalar::sqrt(16.0 * q * q + 4.0 * b * b) {
-        Some(spread) => compared(k, tr, spread),
+        Some(spread) => compared(disk, tr, spread),
         None => Saddle::Flat,
     }
 }
@@ -199,7 +197,8 @@ pub fn accepts(
     ensures { result ≡ cond (disk_fits k (length image.now) w h x y) (saddle_at t k (pixel image.now w) x y) Saddle.Flat }
 {
     if disk_fits(k, image.len(), w, h, x, y) {
-        judged(t, k, project(t, k, image, w, h, x, y))
+        let disk = Disk::new(k);
+        judged(t, disk, project(t, disk, image, w, h, x, y))
     } else {
         Saddle::Flat
     }

@@ -1,4 +1,4 @@
-// The two functions of an f32 that Rattle lacks: the correctly rounded square root, and a natural logarithm that is a cut series.
+// The square root of an f32, correctly rounded, and a natural logarithm that is a cut series: both are worked out in whole numbers.
 #![tactic(auto)]
 
 ghost use Rattle.std.specs.Prelude.{◌≡◌, Float, Some};

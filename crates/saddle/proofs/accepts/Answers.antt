@@ -27,13 +27,13 @@ disk-around : (c : Then-disk_fits)
     → let o = c.args in Around o.k (length o.image.now) o.w o.h o.x o.y
 disk-around c = around _ _ _ _ _ _ (sym c.disk_fits.ensures ∙ c.if-disk_fits.true)
 
-pub project-requires : goal.project-requires
-project-requires c = disk-around c
+pub new-disk-requires : goal.new-disk-requires
+new-disk-requires c = (disk-around (goal.at.new-disk-requires c).Then-disk_fits).small
 
-pub judged-requires : goal.judged-requires
-judged-requires c = (disk-around (goal.at.judged-requires c).Then-disk_fits).small
+pub project-requires : goal.project-requires
+project-requires c = rw c.new-disk.ensures (disk-around (goal.at.project-requires c).Then-disk_fits)
 
 pub returns-then-disk_fits : goal.returns-then-disk_fits
 returns-then-disk_fits c =
-    judged-so _ _ _ _ _ c.disk_fits.ensures c.if-disk_fits.true c.project.ensures
-    c.judged.ensures
+    judged-so _ _ _ _ _ c.disk_fits.ensures c.if-disk_fits.true (c.project.ensures ∙ rw c.new-disk.ensures)
+    (c.judged.ensures ∙ rw c.new-disk.ensures)

@@ -5,8 +5,8 @@ use Rattle.saddle.proofs.judged.Goals as goal
 
 pub returns-in-Some : goal.returns-in-Some
 unfolding judge squares
-returns-in-Some c = c.compared.ensures ∙ ap (by_root c.args.k _) (sym c.in-Some.is ∙ c.sqrt.ensures)
+returns-in-Some c = c.compared.ensures ∙ ap (by_root c.args.disk.k _) (sym c.in-Some.is ∙ c.sqrt.ensures)
 
 pub returns-in-None : goal.returns-in-None
 unfolding judge squares
-returns-in-None c = ap (by_root c.args.k _) (sym c.in-None.is ∙ c.sqrt.ensures)
+returns-in-None c = ap (by_root c.args.disk.k _) (sym c.in-None.is ∙ c.sqrt.ensures)

@@ -1,6 +1,6 @@
 -- `saddle::project` meets its contract: each read is the pixel meant. Assumes nothing.
-use Rattle.std.proofs.Common.{◌≡◌, ◌<◌, ◌∙◌, pos, arith, subst, ℕ, rules}
-use Rattle.saddle.specs.Saddle.{side, added, around, sums_of}
+use Rattle.std.proofs.Common.{◌≡◌, pos, arith, subst, ℕ, rules}
+use Rattle.saddle.specs.Saddle.{added, around, sums_of}
 use lib.Ieee.{binary32, of_int}
 use Rattle.grid.specs.Ways.{pixel}
 use Rattle.saddle.proofs.Walk.{row_room, pixel-at}
@@ -8,15 +8,12 @@ use Rattle.saddle.proofs.project.Goals as goal
 
 pub fold-requires : goal.fold-requires
 fold-requires c = λ s x y dx dy a b.
-    let here : y < side c.args.k = subst (λ (k : ℕ). y < side k) c.new.ensures b in
-    let wide : x < side c.args.k = subst (λ (k : ℕ). x < side k) c.new.ensures a in
-    (omega (arith, c.requires.inside.below, c.requires.high), omega (arith, row_room c.requires here))
+    (omega (arith, c.requires.inside.below, c.requires.high), omega (arith, row_room c.requires b))
 
 pub returns : goal.returns
 unfolding added sums_of
 returns c =
-    c.fold.ensures (λ p dx dy s. added c.args.t dx dy (around c.args.k (pixel c.args.image.now c.args.w) c.args.x c.args.y p) s)
+    c.fold.ensures (λ p dx dy s. added c.args.t dx dy (around c.args.disk.k (pixel c.args.image.now c.args.w) c.args.x c.args.y p) s)
     (λ s r p dx dy e.
     subst (λ (v : ℕ). r ≡ added c.args.t dx dy (of_int binary32 (pos v)) s)
     (pixel-at c.requires c.args.image.now p.y p.x) (search rules))
-    ∙ rw c.new.ensures
