@@ -16,7 +16,7 @@ const MAX_SIDE: usize = 4096;
 fn quarter_sum(p: u8, q: u8, s: u8, t: u8) -> u8
     ensures { result ≡ quarter p q s t }
 {
-    ((p as u16 + q as u16 + s as u16 + t as u16 + 2) / 4) as u8
+    ((u16::from(p) + u16::from(q) + u16::from(s) + u16::from(t) + 2) / 4) as u8
 }
 
 // The row between two rows of the image, twice as wide: two pixels a turn, the last column apart.
@@ -30,6 +30,7 @@ fn row_kernel(top: &[u8], low: &[u8], w: usize, dst: &mut [u8])
         return;
     }
     let last = w - 1;
+    // By index: of both rows a pixel and the next are read beside the two that are written.
     for x in 0..last {
         let n = x + 1;
         let i = 2 * x;
@@ -48,16 +49,6 @@ fn row_kernel(top: &[u8], low: &[u8], w: usize, dst: &mut [u8])
     dst[i + 1] = m;
 }
 
-// The n entries of src from a on.
-fn copy(src: &[u8], a: usize, n: usize, dst: &mut [u8])
-    requires { (a + n ≤ length src.now) × (n ≤ length dst.old) }
-    ensures { dst.new ≡ filled n (λ k. get_or src.now (a + k) 0) dst.old }
-{
-    for i in 0..n {
-        dst[i] = src[a + i];
-    }
-}
-
 // Working row y at either factor. Twice: an even row has the image's row on both sides, an odd one that row and the one below.
 fn work_row(src: &[u8], w: usize, h: usize, factor: u32, y: usize, out: &mut [u8])
     requires { FittingRow factor w h y (length src.now) (length out.old) }
@@ -65,10 +56,11 @@ fn work_row(src: &[u8], w: usize, h: usize, factor: u32, y: usize, out: &mut [u8
 {
     if factor == 2 {
         let a = y / 2 * w;
-        let b = sizes::lesser((y + y % 2) / 2, h - 1) * w;
+        let b = ((y + y % 2) / 2).min(h - 1) * w;
         row_kernel(&src[a..], &src[b..], w, out);
     } else {
-        copy(src, y * w, w, out);
+        let a = y * w;
+        out[..w].copy_from_slice(&src[a..a + w]);
     }
 }
 
@@ -81,46 +73,32 @@ fn work_rows(src: &[u8], w: usize, h: usize, factor: u32, out: &mut [u8])
 {
     let ww = (factor as usize) * w;
     let wh = (factor as usize) * h;
+    // By index: of what stands in a row after `chunks_exact_mut` nothing would be known.
     for y in 0..wh {
         let i = y * ww;
-        let j = i + ww;
-        work_row(src, w, h, factor, y, &mut out[i..j]);
+        work_row(src, w, h, factor, y, &mut out[i..i + ww]);
     }
 }
 
+#[tactic(auto, unfolding(crate::specs::Upsample::image_fits))]
 fn image_fits(w: usize, h: usize, factor: u32, pixels: usize) -> bool
     ensures { result ≡ image_fits factor w h pixels }
 {
-    if 1 <= factor {
-        if factor <= 2 {
-            if sizes::larger(w, h) <= MAX_SIDE {
-                return w * h <= pixels;
-            }
-        }
-    }
-    false
+    (1..=2).contains(&factor) && w.max(h) <= MAX_SIDE && w * h <= pixels
 }
 
+#[tactic(auto, using(crate::proofs::Fits::working_sides), unfolding(crate::specs::Upsample::row_fits))]
 fn row_fits(w: usize, h: usize, factor: u32, y: usize, pixels: usize, room: usize) -> bool
     ensures { result ≡ row_fits factor w h y pixels room }
 {
-    if image_fits(w, h, factor, pixels) {
-        if y < (factor as usize) * h {
-            return (factor as usize) * w <= room;
-        }
-    }
-    false
+    image_fits(w, h, factor, pixels) && y < (factor as usize) * h && (factor as usize) * w <= room
 }
 
+#[tactic(auto, using(crate::proofs::Fits::working_sides), unfolding(crate::specs::Upsample::up_fits))]
 fn up_fits(w: usize, h: usize, factor: u32, pixels: usize, room: usize) -> bool
     ensures { result ≡ up_fits factor w h pixels room }
 {
-    if image_fits(w, h, factor, pixels) {
-        let ww = (factor as usize) * w;
-        let wh = (factor as usize) * h;
-        return ww * wh <= room;
-    }
-    false
+    image_fits(w, h, factor, pixels) && (factor as usize) * w * ((factor as usize) * h) <= room
 }
 
 // Working row y. What does not fit changes nothing.
