@@ -98,21 +98,6 @@ near-row h y b = at (y % 2) refl
     at (suc zero) e = omega arith
     at (suc (suc a)) e = omega arith
 
--- at factor 2: the two rows of the image that working row y lies between, the second of which is j
-pub record Beside (w h y j pixels room : ℕ) : Type 0 where
-  pub low : y < 2 * h
-  pub first : y / 2 * w + w ≤ pixels
-  pub second : j * w + w ≤ pixels
-  pub wide : 2 * w ≤ room
-
-pub beside : {factor w h y pixels room : ℕ} (j : ℕ) → FittingRow factor w h y pixels room → factor ≡ 2 → j ≡ min ((y + y % 2) / 2) (h - 1)
-    → Beside w h y j pixels room
-beside {w = w} {h = h} {y = y} j f e i =
-    let l : y < 2 * h = rw e at f.row in
-    let m : y / 2 * w + w ≤ w * h = row_in w (omega arith) in
-    let n : j * w + w ≤ w * h = row_in w (omega arith) in
-    record { low = l; first = omega arith; second = omega arith; wide = rw e at f.within }
-
 -- at factor 1: the one row of the image
 pub record Alone (w y pixels room : ℕ) : Type 0 where
   pub here : y * w + w ≤ pixels
