@@ -8,7 +8,8 @@ ghost use Rattle.means.specs.Means.{value_at, column_mean};
 ghost use Rattle.blur.specs.Blur.{row_mean, blur_at, scratched, blur_fits};
 ghost use Rattle.blur.specs.Fitting.{FittingMaps};
 
-// Both passes go by index: of what stands in a row after `chunks_exact_mut` nothing would be known.
+// By index, as the next pass too: of what stands in a row after `chunks_exact_mut` nothing would be known.
+// Two passes, not one over a closure: one reads a row and one the whole map, and what a closure would have to promise is longer than both.
 #[tactic(auto, using(grid::proofs::Plane::row_in))]
 fn blur_rows(resp: &[f32], w: usize, h: usize, radius: usize, scratch: &mut [f32])
     requires { FittingMaps w h radius (length resp.now) (length scratch.old) }
