@@ -5,8 +5,9 @@ use Prim.Native.Nat.{ℕ, ◌+◌, ◌-◌, ◌*◌, ◌≤◌, ◌<◌, min, ma
 use native.Mathlib.Nat.{add-mul, zero-add}
 use native.Mathlib.Decide.{dec_le}
 use native.Mathlib.Omega.{arith}
-use mathlib.Core.List.{List, ◌++◌}
-use lib.ListN.{length, get_or, take, drop, length-take, length-drop}
+use mathlib.Core.List.{List, [], ◌∷◌, ◌++◌}
+use lib.ListN.{length, get_or, replicate, take, drop, length-take, length-drop}
+use borrow.Author.Tests.{lt-ltb, le-leb}
 use lib.IntN.{pos}
 use lib.Ieee.{Float, nan, binary32, add, mul, div, of_int}
 use Rattle.float.specs.Values.{f0, f1}
@@ -16,9 +17,20 @@ use Rattle.grid.specs.Fill.{filled}
 use Rattle.grid.proofs.Fill.{filled_zero, filled_ext, length-fill}
 use Rattle.grid.proofs.Part.{fill-part}
 use Rattle.grid.specs.Touch.{touched}
-use Rattle.grid.proofs.Touch.{length-touched, touched-on, touched_join, Stage, stage_none, stage_more, stage_all}
+use Rattle.grid.proofs.Touch.{touched-on, touched_join, Stage, stage_none, stage_more, stage_all}
 use Rattle.means.specs.Means.{value_at, counted, count_of, window_sum, mean_at, column_mean}
 use Rattle.means.specs.Kernel.{add_three, rows_from}
+
+-- ---- a buffer of zeros
+
+repeated : (v : Float) (xs : List Float) → filled (length xs) (λ _. v) xs ≡ replicate (length xs) v
+unfolding filled
+repeated v [] = refl
+repeated v (x ∷ xs) = ap (λ (r : List Float). v ∷ r) (repeated v xs)
+
+pub zeroed : (xs : List Float) {ys : List Float} → ys ≡ replicate (length xs) f0 → ys ≡ touched nan 0 (length xs) (λ _ _. f0) xs
+unfolding touched
+zeroed xs p = p ∙ sym (filled_ext (length xs) _ (λ _. f0) xs (λ j b. rw (lt-ltb j (length xs) b, le-leb 0 j (omega arith))) ∙ repeated f0 xs)
 
 -- of the window about x, the places that are k steps or less from its uncut start
 unfoldable pub grown : (ℕ → Float) → ℕ → ℕ → ℕ → ℕ → Float
@@ -62,11 +74,6 @@ module _ (f : ℕ → Float) (n r : ℕ) where
   grown_all k x e =
       let q : x + k - r ≡ x + r + 1 = omega arith in
       rw q
-
--- a value divided by its count, from the two ends that code works out
-pub by_count : (n r x : ℕ) (v : Float) {a e : ℕ} → e ≡ min (x + r + 1) n → a ≡ x - r
-    → div binary32 v (of_int binary32 (pos (e - a))) ≡ div binary32 v (count_of n r x)
-by_count n r x v p q = rw (p, q)
 
 -- ---- a row's sums
 
@@ -133,13 +140,12 @@ whole w r j a e p q l m =
 pub divided : (r w a e : ℕ) (xs : List Float) {d : ℕ} {ys zs us : List Float} → length xs ≡ w → a ≡ min r w → d ≡ w - r → e ≡ max d a
     → ys ≡ touched nan 0 a (λ x v. div binary32 v (count_of (length xs) r x)) xs
     → zs ≡ touched nan a e (λ _ v. div binary32 v (of_int binary32 (pos (2 * r + 1)))) ys
-    → us ≡ touched nan e w (λ x v. div binary32 v (count_of (length zs) r x)) zs
+    → us ≡ touched nan e w (λ x v. div binary32 v (count_of (length xs) r x)) zs
     → us ≡ touched nan 0 w (λ x v. div binary32 v (count_of (length xs) r x)) xs
 divided r w a e xs {d} {ys} {zs} {us} l p o q A B C =
     let m : a ≤ e = omega arith in
     let t : e ≤ w = omega arith in
-    let n : length zs ≡ length xs = ap length B ∙ length-touched nan a e _ ys ∙ ap length A ∙ length-touched nan 0 a _ xs in
-    touched_join nan 0 e w _ _ xs (omega arith) t (λ j v _ _. rw n)
+    touched_join nan 0 e w _ _ xs (omega arith) t (λ j v _ _. refl)
     (touched_join nan 0 a e _ _ xs (omega arith) m (λ j v u t. rw (l, whole w r j a e p (q ∙ ap (λ (i : ℕ). max i a) o) u t)) A B)
     C
 
@@ -165,15 +171,14 @@ module _ (src : List Float) (w a : ℕ) where
   column_none xs l p = stage_none nan w _ (λ _. f0) a xs l p (λ x. fold-none (add binary32) f0 _ _ (omega arith))
 
   pub column_more : (k : ℕ) {xs ys zs : List Float} → a ≤ k → Added xs ys k
-      → zs ≡ touched nan 0 w (λ x v. add binary32 v (get_or src (k * w + (x - 0)) nan)) ys → Added xs zs (k + 1)
+      → zs ≡ touched nan 0 w (λ x v. add binary32 v (get_or src (k * w + x) nan)) ys → Added xs zs (k + 1)
   column_more k l s t = stage_more nan w _ 0 w _ k (k + 1) s t inside (λ j _ b. absurd (omega arith)) (λ j b c. absurd (omega arith))
     where
       inside : (j : ℕ) → j < w → 0 ≤ j → j < w
-          → add binary32 (rows_from src w a k j) (get_or src (k * w + (j - 0)) nan) ≡ rows_from src w a (k + 1) j
+          → add binary32 (rows_from src w a k j) (get_or src (k * w + j) nan) ≡ rows_from src w a (k + 1) j
       inside j _ _ _ =
           let e : k ≡ a + (k - a) = omega arith in
-          let z : j - 0 ≡ j = omega arith in
-          rw z (fold_on (add binary32) f0 _ (k - a) _ (omega arith) (ap (λ (i : ℕ). value_at src w j i) e) refl)
+          fold_on (add binary32) f0 _ (k - a) _ (omega arith) (ap (λ (i : ℕ). value_at src w j i) e) refl
 
   -- three rows in one pass
   pub column_three : (k : ℕ) {xs ys zs : List Float} → a ≤ k → Added xs ys k
@@ -203,12 +208,11 @@ module _ (src : List Float) (w a : ℕ) where
 -- the columns' sums, each times the reciprocal of the count
 pub column_means : (src : List Float) (w h r y a e : ℕ) (xs : List Float) {ys zs : List Float} → length xs ≡ w → a ≡ y - r → e ≡ min (y + r + 1) h
     → ys ≡ filled w (rows_from src w a e) xs
-    → zs ≡ touched nan 0 (length ys) (λ _ v. mul binary32 v (div binary32 f1 (of_int binary32 (pos (e - a))))) ys
+    → zs ≡ touched nan 0 w (λ _ v. mul binary32 v (div binary32 f1 (of_int binary32 (pos (e - a))))) ys
     → zs ≡ filled w (λ x. column_mean (value_at src w) h r x y) xs
 unfolding column_mean window_sum
 column_means src w h r y a e xs {ys} l A E p q =
-    let n : length ys ≡ w = length-fill _ _ xs p ∙ l in
-    touched-on nan 0 w (λ _ v. mul binary32 v (div binary32 f1 (of_int binary32 (pos (e - a))))) ys w (rows_from src w a e) _ xs p (rw n at q) l
+    touched-on nan 0 w (λ _ v. mul binary32 v (div binary32 f1 (of_int binary32 (pos (e - a))))) ys w (rows_from src w a e) _ xs p q l
     (λ j _ _ _. rw (E, A)) (λ j _ b. absurd (omega arith)) (λ j b c. absurd (omega arith))
 
 -- ---- rows as parts of a map

@@ -2,7 +2,7 @@
 // columns as in the Rust, and along the row too. So no loop over pixels has a branch, and each pixel still gets its window's values in order.
 #![tactic(auto)]
 
-ghost use Rattle.std.specs.Prelude.{◌≡◌, cond, ◌+◌, ◌-◌, ◌*◌, ◌<◌, ◌≤◌, length, get_or, pos};
+ghost use Rattle.std.specs.Prelude.{◌≡◌, cond, ℕ, Float, ◌+◌, ◌-◌, ◌*◌, ◌<◌, ◌≤◌, length, get_or, pos};
 ghost use Rattle.std.specs.Float.{nan, binary32};
 ghost use Rattle.std.specs.Float.Ieee.{of_int};
 ghost use Rattle.std.specs.Float.Ieee as ieee;
@@ -15,28 +15,19 @@ ghost use Rattle.means.specs.Kernel.{add_three, rows_from};
 // The widest window that is averaged over.
 const MAX_RADIUS: usize = 3;
 
-// Each entry becomes 0.
-fn clear(dst: &mut [f32])
-    ensures { dst.new ≡ touched nan 0 (length dst.old) (λ _ _. f0) dst.old }
+// Each entry from a and below e becomes what f makes of its place and of itself.
+fn change<F: Fn(usize, f32) -> f32>(dst: &mut [f32], a: usize, e: usize, f: F)
+    requires { (a ≤ e) × (e ≤ length dst.old) × ((x : ℕ) (v : Float) → a ≤ x → x < e → F.pre f x v) }
+    ensures { (g : ℕ → Float → Float) → ((x : ℕ) (v r : Float) → F.post f x v r → r ≡ g x v) → dst.new ≡ touched nan a e g dst.old }
 {
-    for x in 0..dst.len() {
-        dst[x] = 0.0;
-    }
-}
-
-// The entries of src from b on are added to those of dst from a and below e.
-fn add(dst: &mut [f32], a: usize, e: usize, src: &[f32], b: usize)
-    requires { (a ≤ e) × (e ≤ length dst.old) × (b + (e - a) ≤ length src.now) }
-    ensures { dst.new ≡ touched nan a e
-        (λ x v. ieee.add binary32 v (get_or src.now (b + (x - a)) nan))
-        dst.old }
-{
+    // By index: f takes the place too, and a part of dst alone changes.
     for x in a..e {
-        dst[x] = dst[x] + src[b + (x - a)];
+        dst[x] = f(x, dst[x]);
     }
 }
 
 // Three rows of src, from b on, are added one after the other.
+#[tactic(auto, unfolding(crate::specs::Kernel::add_three))]
 fn add_three(dst: &mut [f32], src: &[f32], b: usize)
     requires { b + 3 * length dst.old ≤ length src.now }
     ensures { dst.new ≡ touched nan 0 (length dst.old)
@@ -46,46 +37,20 @@ fn add_three(dst: &mut [f32], src: &[f32], b: usize)
     let w = dst.len();
     let c = b + w;
     let d = c + w;
-    for x in 0..w {
-        dst[x] = ((dst[x] + src[b + x]) + src[c + x]) + src[d + x];
-    }
+    change(
+        dst,
+        0,
+        w,
+        |x, v| ((v + src[b + x]) + src[c + x]) + src[d + x],
+    );
 }
 
-// Each entry from a and below e is divided by n.
-fn divide(dst: &mut [f32], a: usize, e: usize, n: usize)
-    requires { (a ≤ e) × (e ≤ length dst.old) × (n ≤ 7) }
-    ensures { dst.new ≡ touched nan a e (λ _ v. ieee.div binary32 v (of_int binary32 (pos n))) dst.old }
+// How many of a row's w places the window about x has.
+fn window_count(w: usize, radius: usize, x: usize) -> f32
+    requires { (x < w) × (w ≤ 8192) × (radius ≤ 3) }
+    ensures { result ≡ count_of w radius x }
 {
-    let count = n as f32;
-    for x in a..e {
-        dst[x] = dst[x] / count;
-    }
-}
-
-// The same by the count of each one's own window.
-fn divide_edge(dst: &mut [f32], a: usize, e: usize, radius: usize)
-    requires { (a ≤ e) × (e ≤ length dst.old) × (length dst.old ≤ 8192) × (radius ≤ 3) }
-    ensures { dst.new ≡ touched nan a e
-        (λ x v. ieee.div binary32 v (count_of (length dst.old) radius x))
-        dst.old }
-{
-    let w = dst.len();
-    for x in a..e {
-        let n = sizes::lesser(x + radius + 1, w) - sizes::less(x, radius);
-        dst[x] = dst[x] / (n as f32);
-    }
-}
-
-// Each entry is multiplied by the reciprocal of n, which is rounded once.
-fn scale(dst: &mut [f32], n: f32)
-    ensures { dst.new ≡ touched nan 0 (length dst.old)
-        (λ _ v. ieee.mul binary32 v (ieee.div binary32 f1 n))
-        dst.old }
-{
-    let f = 1.0 / n;
-    for x in 0..dst.len() {
-        dst[x] = dst[x] * f;
-    }
+    ((x + radius + 1).min(w) - x.saturating_sub(radius)) as f32
 }
 
 // The sums of the windows along a row: turn k adds to each pixel the k-th place of its window, where the row has it.
@@ -103,13 +68,11 @@ fn sum_row(src: &[f32], radius: usize, dst: &mut [f32])
         dst.old }
 {
     let w = dst.len();
-    let size = 2 * radius + 1;
-    clear(dst);
-    for k in 0..size {
-        let a = sizes::lesser(sizes::less(radius, k), w);
-        let b = sizes::lesser(sizes::less(k, radius), w);
-        let e = w - b;
-        add(dst, a, e, src, b);
+    dst.fill(0.0);
+    for k in 0..2 * radius + 1 {
+        let a = radius.saturating_sub(k).min(w);
+        let b = k.saturating_sub(radius).min(w);
+        change(dst, a, w - b, |x, v| v + src[b + (x - a)]);
     }
 }
 
@@ -121,11 +84,12 @@ fn divide_row(dst: &mut [f32], radius: usize)
         dst.old }
 {
     let w = dst.len();
-    let a = sizes::lesser(radius, w);
-    let e = sizes::larger(sizes::less(w, radius), a);
-    divide_edge(dst, 0, a, radius);
-    divide(dst, a, e, 2 * radius + 1);
-    divide_edge(dst, e, w, radius);
+    let a = radius.min(w);
+    let e = w.saturating_sub(radius).max(a);
+    let whole = (2 * radius + 1) as f32;
+    change(dst, 0, a, |x, v| v / window_count(w, radius, x));
+    change(dst, a, e, |_, v| v / whole);
+    change(dst, e, w, |x, v| v / window_count(w, radius, x));
 }
 
 // The means along a row.
@@ -145,15 +109,14 @@ fn sum_columns(src: &[f32], w: usize, a: usize, e: usize, dst: &mut [f32])
     requires { (a ≤ e) × (e ≤ 8192) × (length dst.old ≡ w) × (w * e ≤ length src.now) }
     ensures { dst.new ≡ filled w (rows_from src.now w a e) dst.old }
 {
-    clear(dst);
-    let mut k = a;
-    while k + 3 <= e {
-        add_three(dst, src, k * w);
-        k += 3;
+    dst.fill(0.0);
+    let threes = (e - a) / 3;
+    for t in 0..threes {
+        add_three(dst, src, (a + 3 * t) * w);
     }
-    while k < e {
-        add(dst, 0, w, src, k * w);
-        k += 1;
+    for k in a + 3 * threes..e {
+        let row = k * w;
+        change(dst, 0, w, |x, v| v + src[row + x]);
     }
 }
 
@@ -162,32 +125,27 @@ fn mean_column(src: &[f32], w: usize, h: usize, y: usize, radius: usize, dst: &m
     requires { (radius ≤ 3) × (y < h) × (h ≤ 8192) × (length dst.old ≡ w) × (w * h ≤ length src.now) }
     ensures { dst.new ≡ filled w (λ x. column_mean (value_at src.now w) h radius x y) dst.old }
 {
-    let a = sizes::less(y, radius);
-    let e = sizes::lesser(y + radius + 1, h);
+    let a = y.saturating_sub(radius);
+    let e = (y + radius + 1).min(h);
     let n = (e - a) as f32;
+    let f = 1.0 / n;
     sum_columns(src, w, a, e, dst);
-    scale(dst, n);
+    change(dst, 0, w, |_, v| v * f);
 }
 
 // Whether a window is narrow enough, and a map has sides and room as any working image.
+#[tactic(auto, unfolding(crate::specs::Means::map_fits))]
 pub fn map_fits(w: usize, h: usize, radius: usize, room: usize) -> bool
     ensures { result ≡ map_fits w h radius room }
 {
-    if radius <= MAX_RADIUS {
-        return sizes::fits(w, h, room);
-    }
-    false
+    radius <= MAX_RADIUS && sizes::fits(w, h, room)
 }
 
+#[tactic(auto, unfolding(crate::specs::Means::column_fits))]
 fn column_fits(w: usize, h: usize, y: usize, radius: usize, size: usize, room: usize) -> bool
     ensures { result ≡ column_fits w h y radius size room }
 {
-    if map_fits(w, h, radius, size) {
-        if y < h {
-            return w <= room;
-        }
-    }
-    false
+    map_fits(w, h, radius, size) && y < h && w <= room
 }
 
 // The means along one row. What does not fit changes nothing.

@@ -8,7 +8,7 @@ use mathlib.Core.List.{List, []}
 use lib.ListN.{length, get_or}
 use lib.Seq.{get_or-take, get_or-drop}
 use lib.Ieee.{Float, nan}
-use Rattle.places.specs.declared.Place.TheVariants.{Value, Outside}
+use Rattle.std.specs.Prelude.{Some, None}
 use Rattle.places.specs.Places.{whole, row_inside, place_at, row_at}
 
 module _ (response : List Float) (image : List ℕ) (w h y : ℕ) where
@@ -18,7 +18,7 @@ module _ (response : List Float) (image : List ℕ) (w h y : ℕ) where
   short (inl l) = simp (lt-leb (w * h) (length response) l, and-false)
   short (inr l) = simp (lt-leb (w * h) (length image) l, and-false)
 
-  pub short-place : (length response < w * h) ⊎ (length image < w * h) → (x : ℕ) → place_at response image w h x y ≡ Outside
+  pub short-place : (length response < w * h) ⊎ (length image < w * h) → (x : ℕ) → place_at response image w h x y ≡ None
   unfolding place_at
   short-place l x = simp (short l, and-false)
 
@@ -28,6 +28,6 @@ module _ (response : List Float) (image : List ℕ) (w h y : ℕ) where
 
   -- a place of the map is an entry of its row
   pub place_in_row : (x : ℕ) → x < w → row_inside (length response) (length image) w h y ≡ true
-      → place_at response image w h x y ≡ Value (get_or (row_at response image w h y) x nan)
+      → place_at response image w h x y ≡ Some (get_or (row_at response image w h y) x nan)
   unfolding place_at row_at
   place_in_row x l t = simp (t, lt-ltb x w l, get_or-take, get_or-drop)

@@ -1,9 +1,7 @@
 -- Document 01, "View of the map": its places and rows.
-use Rattle.std.specs.Prelude.{◌≡◌, Bool, ◌&&◌, cond, ℕ, ◌+◌, ◌*◌, List, [], ltb, leb, length, get_or, take, drop, Float}
+use Rattle.std.specs.Prelude.{◌≡◌, Bool, ◌&&◌, cond, ℕ, ◌+◌, ◌*◌, List, [], ltb, leb, length, get_or, take, drop, Float, Option, Some, None}
 use Rattle.std.specs.Float.{nan}
 use Rattle.std.specs.Borrow.{Bor}
-use Rattle.places.specs.declared.Place.{Place}
-use Rattle.places.specs.declared.Place.TheVariants.{Value, Outside}
 
 -- "If either slice is shorter than W·H, every place and row is outside": slices of m and n entries hold the map
 unfoldable pub whole : ℕ → ℕ → ℕ → ℕ → Bool
@@ -14,8 +12,8 @@ unfoldable pub row_inside : ℕ → ℕ → ℕ → ℕ → ℕ → Bool
 row_inside m n w h y = ltb y h && whole m n w h
 
 -- "Reading a place outside answers "outside" where the Rust panics."
-unfoldable pub place_at : List Float → List ℕ → ℕ → ℕ → ℕ → ℕ → Place
-place_at response image w h x y = cond (ltb x w && row_inside (length response) (length image) w h y) (Value (get_or response (y * w + x) nan)) Outside
+unfoldable pub place_at : List Float → List ℕ → ℕ → ℕ → ℕ → ℕ → Option Float
+place_at response image w h x y = cond (ltb x w && row_inside (length response) (length image) w h y) (Some (get_or response (y * w + x) nan)) None
 
 -- "A row is handed back as that part of the response itself; a row outside is the empty part." Its values,
 unfoldable pub row_at : List Float → List ℕ → ℕ → ℕ → ℕ → List Float

@@ -1,53 +1,39 @@
 // The places and rows of a map: the response with its sides, beside the working image that it was computed from.
 #![tactic(auto)]
 
-ghost use Rattle.std.specs.Prelude.{◌≡◌, ◌*◌, leb};
+ghost use Rattle.std.specs.Prelude.{◌≡◌};
 ghost use Rattle.places.specs.Places.{row_inside, place_at, Row};
 
-// What stands at a place of the map.
-#[derive(Clone, Copy)]
-pub enum Place {
-    Value(f32),
-    Outside,
-}
-
-// Whether h rows of w entries are within n. The product may be too large to compute.
-fn holds(n: usize, w: usize, h: usize) -> bool
-    ensures { result ≡ leb (w * h) n }
-{
-    if w == 0 {
-        return true;
-    }
-    h <= n / w
-}
-
-// Whether row y is a row of the map, in slices of these lengths. The shorter slice decides.
+// Whether row y is a row of the map, in slices of these lengths. The shorter slice decides. The number of entries may be too large to compute.
+#[tactic(auto, unfolding(crate::specs::Places::row_inside, crate::specs::Places::whole))]
 fn row_inside(response: usize, image: usize, w: usize, h: usize, y: usize) -> bool
     ensures { result ≡ row_inside response image w h y }
 {
-    if y >= h {
-        return false;
-    }
-    if response < image {
-        return holds(response, w, h);
-    }
-    holds(image, w, h)
+    let room = response.min(image);
+    y < h && w.checked_mul(h).is_some_and(|entries| entries <= room)
 }
 
-// The response at column x of row y.
-pub fn place_at(response: &[f32], image: &[u8], w: usize, h: usize, x: usize, y: usize) -> Place
+// The response at column x of row y. None stands for "outside".
+#[tactic(auto, using(crate::proofs::Steps::row_ends), unfolding(crate::specs::Places::place_at))]
+pub fn place_at(
+    response: &[f32],
+    image: &[u8],
+    w: usize,
+    h: usize,
+    x: usize,
+    y: usize,
+) -> Option<f32>
     ensures { result ≡ place_at response.now image.now w h x y }
 {
-    if x >= w {
-        return Place::Outside;
+    if x < w && row_inside(response.len(), image.len(), w, h, y) {
+        Some(response[y * w + x])
+    } else {
+        None
     }
-    if row_inside(response.len(), image.len(), w, h, y) {
-        return Place::Value(response[y * w + x]);
-    }
-    Place::Outside
 }
 
 // Row y: that part of the response itself.
+#[tactic(auto, using(crate::proofs::Steps::row_ends), unfolding(crate::specs::Places::row_at, crate::specs::Places::row_start))]
 pub fn row_at<'a, 'b>(
     response: &'a [f32],
     image: &'b [u8],
@@ -60,8 +46,8 @@ pub fn row_at<'a, 'b>(
     let entries = response.len();
     if row_inside(entries, image.len(), w, h, y) {
         let start = y * w;
-        let end = start + w;
-        return &response[start..end];
+        &response[start..start + w]
+    } else {
+        &response[0..0]
     }
-    &response[0..0]
 }

@@ -1,5 +1,5 @@
 -- Sizes that fit: what a passed test says, what passes it, and then the plain promise of each entry. Assumes nothing.
-use mathlib.Core.Path.{◌≡◌}
+use mathlib.Core.Path.{◌≡◌, sym}
 use mathlib.Core.Bool.{true, cond, ◌&&◌}
 use Prim.Native.Nat.{ℕ, ◌*◌, ◌≤◌, max}
 use native.Mathlib.Nat.{mul-le-mul}
@@ -52,6 +52,9 @@ sides f =
     let a = mul-le-mul f.two f.wide in
     let b = mul-le-mul f.two f.high in
     record { wide = a; high = b; area = mul-le-mul a b }
+
+pub working_sides : (factor w h pixels : ℕ) → true ≡ image_fits factor w h pixels → Sides factor w h
+working_sides factor w h pixels e = sides (image-fitting factor w h pixels (sym e))
 
 -- ---- what passes it
 

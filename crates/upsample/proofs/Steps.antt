@@ -1,14 +1,15 @@
 -- The steps of upsampling: two pixels of a row, a working row at either factor, and where the rows lie. Assumes nothing.
 use mathlib.Core.Path.{◌≡◌, refl, sym, ap, ◌∙◌}
 use Prim.Native.Nat.{ℕ, zero, suc, ◌+◌, ◌-◌, ◌*◌, ◌/◌, ◌%◌, ◌≤◌, ◌<◌, min}
-use native.Mathlib.Nat.{one-mul}
+use native.Mathlib.Nat.{one-mul, zero-add}
 use native.Mathlib.Omega.{arith}
-use mathlib.Core.List.{List}
-use lib.ListN.{length, take, drop, set, get_or, length-drop}
-use lib.Seq.{take_all, get_or-drop}
+use mathlib.Core.List.{List, ◌++◌}
+use lib.ListN.{length, take, drop, set, get_or, length-take, length-drop}
+use lib.Seq.{take_all, get_or-take, get_or-drop, ext_get_or}
 use Rattle.grid.proofs.Loops.{Line, line_more, line_all}
 use Rattle.grid.specs.Fill.{filled}
-use Rattle.grid.proofs.Fill.{filled_zero, filled_ext}
+use Rattle.grid.proofs.Fill.{filled_zero, filled_ext, length-filled, getD_filled}
+use Rattle.grid.proofs.Part.{fill-part}
 use Rattle.grid.proofs.Plane.{row_in}
 use Rattle.grid.specs.Ways.{pixel}
 use Rattle.upsample.specs.Upsample.{after, work_at}
@@ -62,6 +63,30 @@ module _ (a : ℕ) (s : List ℕ) where
   pub part_at : (k : ℕ) → get_or (take (length s - a) (drop a s)) k 0 ≡ get_or s (a + k) 0
   part_at k = ap (λ (l : List ℕ). get_or l k 0) part-from ∙ get_or-drop a s k 0
 
+-- the n entries of s from a on, in the place of the first of xs
+pub row_copied : (a n : ℕ) (s xs : List ℕ) {zs : List ℕ} → a + n ≤ length s → n ≤ length xs → zs ≡ take (a + n - a) (drop a s)
+    → zs ++ drop n xs ≡ filled n (λ k. get_or s (a + k) 0) xs
+row_copied a n s xs l m z =
+    rw (z ∙ taken) (fill-part 0 n f f xs (filled_zero f xs) (λ j _. ap f (omega arith))) ∙ ap (λ (k : ℕ). filled k f xs) (zero-add n)
+  where
+    f : ℕ → ℕ
+    f k = get_or s (a + k) 0
+
+    size : length (take (a + n - a) (drop a s)) ≡ n
+    size = simp (length-take, length-drop) (omega arith)
+
+    wide : length (take n xs) ≡ n
+    wide = simp length-take (omega arith)
+
+    at : (j : ℕ) → j < length (take (a + n - a) (drop a s)) → get_or (take (a + n - a) (drop a s)) j 0 ≡ get_or (filled n f (take n xs)) j 0
+    at j b =
+        let k : j < n = omega (arith, size, b) in
+        let i : j < a + n - a = omega arith in
+        rw (get_or-take, get_or-drop) (sym (getD_filled n f (take n xs) j 0 k (omega (arith, wide))))
+
+    taken : take (a + n - a) (drop a s) ≡ filled n f (take n xs)
+    taken = ext_get_or 0 _ _ (size ∙ sym (length-filled n f (take n xs) ∙ wide)) at
+
 -- ---- a working row
 
 -- the row of the image below working row y, or beside it, as the code finds it
@@ -72,21 +97,6 @@ near-row h y b = at (y % 2) refl
     at zero e = omega arith
     at (suc zero) e = omega arith
     at (suc (suc a)) e = omega arith
-
--- at factor 2: the two rows of the image that working row y lies between, the second of which is j
-pub record Beside (w h y j pixels room : ℕ) : Type 0 where
-  pub low : y < 2 * h
-  pub first : y / 2 * w + w ≤ pixels
-  pub second : j * w + w ≤ pixels
-  pub wide : 2 * w ≤ room
-
-pub beside : {factor w h y pixels room : ℕ} (j : ℕ) → FittingRow factor w h y pixels room → factor ≡ 2 → j ≡ min ((y + y % 2) / 2) (h - 1)
-    → Beside w h y j pixels room
-beside {w = w} {h = h} {y = y} j f e i =
-    let l : y < 2 * h = rw e at f.row in
-    let m : y / 2 * w + w ≤ w * h = row_in w (omega arith) in
-    let n : j * w + w ≤ w * h = row_in w (omega arith) in
-    record { low = l; first = omega arith; second = omega arith; wide = rw e at f.within }
 
 -- at factor 1: the one row of the image
 pub record Alone (w y pixels room : ℕ) : Type 0 where

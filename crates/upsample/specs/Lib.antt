@@ -2,3 +2,4 @@
 pub mod Upsample
 pub mod Kernel
 pub mod Fitting
+pub mod Source

@@ -5,7 +5,7 @@ ghost use Rattle.std.specs.Prelude.{◌≡◌};
 ghost use Rattle.places.specs.Places.{place_at, Row};
 ghost use Rattle.view.specs.View.{view_of};
 
-pub use places::{Place, place_at, row_at};
+pub use places::{place_at, row_at};
 
 // The response at working resolution and the working image that it was computed from, both lent.
 #[derive(Clone, Copy)]
@@ -16,7 +16,7 @@ pub struct RadonResponseView<'a> {
     pub h: usize,
 }
 
-// Each function over the view takes it apart; the work is done over slices and numbers, in `places`.
+// The work is done in `places`, over slices and numbers: its functions are for callers whose two slices have two lifetimes, too.
 impl<'a> RadonResponseView<'a> {
     // The view of what is lent.
     pub fn new(response: &'a [f32], image: &'a [u8], w: usize, h: usize) -> RadonResponseView<'a>
@@ -58,8 +58,8 @@ impl<'a> RadonResponseView<'a> {
         self.image
     }
 
-    // The response at column x of row y.
-    pub fn at(self, x: usize, y: usize) -> Place
+    // The response at column x of row y. None stands for "outside".
+    pub fn at(self, x: usize, y: usize) -> Option<f32>
         ensures { result ≡ place_at self.entry.«data».now self.entry.image.now self.entry.w self.entry.h x y }
     {
         place_at(self.data, self.image, self.w, self.h, x, y)
@@ -81,7 +81,7 @@ pub fn read_place<'a>(
     h: usize,
     x: usize,
     y: usize,
-) -> Place
+) -> Option<f32>
     ensures { result ≡ place_at response.now image.now w h x y }
 {
     RadonResponseView::new(response, image, w, h).at(x, y)

@@ -1,4 +1,6 @@
 -- `blur::blur_columns` meets its contract: a turn fills one row. Assumes nothing.
+use Rattle.std.proofs.Common.{refl}
+use Rattle.grid.proofs.Plane.{row_in}
 use Rattle.grid.proofs.Loops.{rows_none}
 use Rattle.grid.proofs.Part.{rows-part}
 use Rattle.blur.proofs.RowParts.{column_part}
@@ -11,5 +13,5 @@ pub loop-y-preserved : goal.loop-y-preserved
 loop-y-preserved c =
     let in_y = c.loop-y-test.true in
     let row = column_part c.args.scratch.now c.loop-y.resp c.loop-y.y _ c.requires c.loop-y.invariant.long
-    in_y c.row_start-i.ensures.1 c.column_means.ensures in
-    rows-part _ _ _ _ c.row_start-i.ensures.0 c.loop-y.invariant in_y row
+    in_y (row_in c.args.w c.loop-y-test.true) c.column_means.ensures in
+    rows-part _ _ _ _ refl c.loop-y.invariant in_y row

@@ -1,9 +1,10 @@
 -- `means::mean_column` meets its contract: the sums of the window's rows, times the count's reciprocal, are the means. Assumes nothing.
+use Rattle.std.proofs.Common.{rules}
 use Rattle.means.proofs.Steps.{column_means}
 use Rattle.means.proofs.mean_column.Goals as goal
 
 pub returns : goal.returns
 returns c =
     let p = c.args in
-    column_means p.src.now p.w p.h p.radius p.y _ _ p.dst.now c.requires.3 c.less-a.ensures c.lesser-e.ensures
-    c.sum_columns.ensures c.scale.ensures
+    column_means p.src.now p.w p.h p.radius p.y _ _ p.dst.now c.requires.3 c.saturating_sub-a.ensures c.min-e.ensures
+    c.sum_columns.ensures (c.change.ensures _ (λ x v r h. search rules))
