@@ -3,21 +3,24 @@
 use mathlib.Core.Path.{◌≡◌, refl, sym, ap, ◌∙◌}
 use mathlib.Core.Logic.{◌⊎◌, inl, inr}
 use mathlib.Core.Bool.{Bool, true, false, ◌||◌, ◌&&◌, cond, true≢false}
-use Prim.Native.Nat.{ℕ, ◌+◌, ◌-◌, ◌≤◌, ◌<◌}
+use Prim.Native.Nat.{ℕ, zero, suc, ◌+◌, ◌-◌, ◌≤◌, ◌<◌}
 use native.Mathlib.Decide.{dec_le}
 use native.Mathlib.Nat.{add-zero}
 use native.Mathlib.Omega.{arith}
-use mathlib.Core.List.{List}
+use mathlib.Core.List.{List, [], ◌∷◌, ◌++◌}
 use borrow.Author.Tests.{ltb-true, lt-ltb, le-ltb, leb-true, le-leb}
 use lib.ListN.{length, take, drop, length-take, length-drop}
 use lib.Seq.{get_or-take, get_or-drop}
 use lib.Dec.{lit<, ltb, leb}
 use lib.Ieee.{Float, nan, lt}
+use Rattle.std.specs.Prelude.{count_by}
+use Rattle.std.proofs.lemmas.List.{take_all}
+use Rattle.std.proofs.lemmas.List.Sums.{count_by_more_yes, count_by_more_no}
 use Rattle.sizes.proofs.Fitting.{both_true, true_both}
 use Rattle.grid.specs.Each.{count}
-use Rattle.grid.proofs.Each.{count_made, count_yes, count_no}
+use Rattle.grid.proofs.Each.{count_made, count_none, count_yes, count_no}
 use Rattle.grid.specs.Rect.{range, line}
-use Rattle.grid.proofs.Rect.{range_more, range_made, count-line, count_range_ext, count_range_on, count_range_most, count_range_none}
+use Rattle.grid.proofs.Rect.{range_none, range_more, range_made, count-line, count_range_ext, count_range_on, count_range_most, count_range_none}
 use Rattle.crests.specs.Maximum.{entry}
 use Rattle.crests.specs.Crests.{over, longest, above_count, above_from, crest, worth, four, eight, None, Passed, Went, Next, search_fits, Sought}
 
@@ -78,6 +81,22 @@ module _ (p : ℕ → Bool) (a e : ℕ) where
     next_none b = record { least = omega arith; most = omega arith; none = λ k u v. s.none k u (omega arith); found = λ q. absurd (omega arith) }
 
 -- ---- how many are above
+
+-- the entries above a floor, by their places
+above_one : (floor : Float) (s : List Float) (i : ℕ) → i < length s → (t : Bool) → over floor s i ≡ t
+    → count_by (lt floor) (take i s) ≡ count (over floor s) (range 0 i)
+    → count_by (lt floor) (take (i + 1) s) ≡ count (over floor s) (range 0 i ++ (i ∷ []))
+above_one floor s i b true u h = count_by_more_yes (lt floor) s i nan b u ∙ count_yes (over floor s) (range 0 i) i h u
+above_one floor s i b false u h = count_by_more_no (lt floor) s i nan b u ∙ count_no (over floor s) (range 0 i) i h u
+
+pub above-entries : (floor : Float) (s : List Float) → count_by (lt floor) s ≡ count (over floor s) (range 0 (length s))
+above-entries floor s = rw (take_all (length s) s (omega arith)) at (go (length s) (omega arith))
+  where
+    go : (i : ℕ) → i ≤ length s → count_by (lt floor) (take i s) ≡ count (over floor s) (range 0 i)
+    go zero b = rw range_none (count_none _)
+    go (suc i) b =
+        let e : suc i ≡ i + 1 = omega arith in
+        rw (e, range_more 0 i (omega arith)) (above_one floor s i (omega arith) (over floor s i) refl (go i (omega arith)))
 
 -- a part of row y, from column a to before e, counts what the row has there
 pub part-above : (floor : Float) (f : ℕ → ℕ → Float) (part : List Float) (a e y : ℕ) {n : ℕ} → length part ≡ e - a → e - a ≤ longest
