@@ -12,7 +12,7 @@ fn above_in(part: &[f32], floor: f32) -> u32
     requires { length part.now ≤ longest }
     ensures { result ≡ count (over floor part.now) (range 0 (length part.now)) }
 {
-    part.iter().filter(|v| **v > floor).count() as u32
+    part.iter().map(|v| u32::from(*v > floor)).sum()
 }
 
 // How many values are above the floor. A slice that is too long for a u32 to count has none.

@@ -8,5 +8,5 @@ use Rattle.crests.proofs.crests.above_in.Goals as goal
 
 pub returns : goal.returns
 returns c =
-    let e : c.count.result ≡ count_by (lt c.args.floor) c.args.part.now = grind (arith, common_steps) in
+    let e : c.sum.result ≡ count_by (lt c.args.floor) c.args.part.now = grind (arith, common_steps) in
     e ∙ above-entries c.args.floor c.args.part.now
