@@ -13,15 +13,14 @@ ghost use Rattle.std.proofs.lemmas.List.Edits.{sets};
 ghost use Rattle.grid.specs.Rect.{place};
 ghost use Rattle.detect.specs.Corners.{stride};
 ghost use Rattle.verdict.specs.Room.{Cross};
-ghost use Rattle.detect.specs.Scan.{scan_of, floor_in, fitted_at, numbers_in, Tally, above_of, by_subtraction};
+ghost use Rattle.detect.specs.Scan.{scan_of, floor_in, fitted_at, numbers_in, Tally, plus, above_of, by_subtraction};
 ghost use Rattle.detect.specs.Scan.{Judging, Candidate, Finding, NextInRow, Entered, RowFound, Found};
 
 use crests::{max_response, next_candidate};
 use params::{Input, RadonDetectorParams, Verdicts, Working};
 use peak_fit::fit_peak_frac;
 use saddle::new;
-use sizes::lesser;
-use verdict::{Scan, is_kept, judge_at, rank};
+use verdict::{Scan, Verdict, judge_at};
 
 // Along one axis, a peak of value v at entry c and pixel `at`, in the input image: its offset is fitted to the entries `step` before and after.
 fn fitted(
@@ -65,6 +64,21 @@ fn put_corner(list: &mut [f32], n: usize, resp: &[f32], scan: Scan, x: usize, y:
     store(list, n, px, py, v);
 }
 
+// One more candidate with the verdict v.
+fn count(tally: &mut Verdicts, v: Verdict)
+    requires { Tally tally.old (8192 * 8192) }
+    ensures { tally.new ≡ plus tally.old v 1 }
+{
+    match v {
+        Verdict::NotAbove => tally.not_above += 1,
+        Verdict::Beaten => tally.beaten += 1,
+        Verdict::TooFew => tally.too_few += 1,
+        Verdict::TooFlat => tally.too_flat += 1,
+        Verdict::WrongCurvature => tally.wrong_curvature += 1,
+        Verdict::Kept => tally.kept += 1,
+    }
+}
+
 // The candidate at (x, y): judged, stored where it is kept and there is room, and tallied.
 fn judge_and_list(
     resp: &[f32],
@@ -72,20 +86,19 @@ fn judge_and_list(
     scan: Scan,
     x: usize,
     y: usize,
-    tally: &mut [usize],
+    tally: &mut Verdicts,
     list: &mut [f32],
 )
     requires { Candidate scan x y (length resp.now) (length image.now) × Tally tally.old (8192 * 8192) }
     ensures { Entered scan resp.now image.now x y list.old tally.old list.new tally.new }
 {
     let v = judge_at(resp, image, scan, x, y);
-    let n = tally[5];
+    let n = tally.kept;
     let room = list.len() / 3;
-    if is_kept(v) & (n < room) {
+    if v.is_kept() && n < room {
         put_corner(list, n, resp, scan, x, y);
     }
-    let r = rank(v);
-    tally[r] += 1;
+    count(tally, v);
 }
 
 // The next place of row y from `from` on, and before `to`, that may be kept; `to` where there is none. What is passed over and above the floor is
@@ -96,7 +109,7 @@ fn next_in_row(
     y: usize,
     from: usize,
     to: usize,
-    tally: &mut [usize],
+    tally: &mut Verdicts,
 ) -> usize
     requires within_row { (1 ≤ from) × (from ≤ to) × (to < scan.w) × (scan.w ≤ 8192) × (y * scan.w + scan.w ≤ length resp.now) }
     requires tally { Tally tally.old (8192 * 8192) }
@@ -113,7 +126,7 @@ fn next_in_row(
         scan.floor,
         params.nms_radius as usize,
     );
-    tally[1] += next.above;
+    tally.beaten += next.above;
     next.end
 }
 
@@ -123,7 +136,7 @@ fn find_in_row(
     image: &[u8],
     scan: Scan,
     y: usize,
-    tally: &mut [usize],
+    tally: &mut Verdicts,
     list: &mut [f32],
 )
     requires { Finding scan y tally.old (length resp.now) (length image.now) }
@@ -141,23 +154,15 @@ fn find_in_row(
     }
 }
 
-// The six counts of `all` candidates: who is in no other entry of the tally is not above the floor.
-fn by_subtraction(all: usize, tally: &[usize]) -> Verdicts
-    requires { (all ≤ 8192 * 8192) × (above_of tally.now ≤ all) × (length tally.now ≡ 6) }
-    ensures { result ≡ by_subtraction all tally.now }
+// The six counts of `all` candidates: who is in no other count of the tally is not above the floor.
+fn by_subtraction(all: usize, tally: Verdicts) -> Verdicts
+    requires { (all ≤ 8192 * 8192) × (above_of tally ≤ all) }
+    ensures { result ≡ by_subtraction all tally }
 {
-    let beaten = tally[1];
-    let too_few = tally[2];
-    let too_flat = tally[3];
-    let wrong_curvature = tally[4];
-    let kept = tally[5];
+    let above = tally.beaten + tally.too_few + tally.too_flat + tally.wrong_curvature + tally.kept;
     Verdicts {
-        not_above: all - (beaten + too_few + too_flat + wrong_curvature + kept),
-        beaten,
-        too_few,
-        too_flat,
-        wrong_curvature,
-        kept,
+        not_above: all - above,
+        ..tally
     }
 }
 
@@ -188,10 +193,10 @@ pub fn find_peaks(resp: &[f32], image: &[u8], scan: Scan, list: &mut [f32]) -> V
     let h = scan.h;
     let b = scan.params.border();
     let ey = h - b;
-    let mut tally = [0usize; 6];
+    let mut tally = Verdicts::none();
     for y in b..ey {
         find_in_row(resp, image, scan, y, &mut tally, list);
     }
     let all = (scan.w - 2 * b) * (ey - b);
-    by_subtraction(all, &tally)
+    by_subtraction(all, tally)
 }

@@ -1,12 +1,11 @@
 -- `detect::peaks::find_in_row` meets its contract. The invariant is `Scanned`: what the row has, up to the place where the search stands.
-use mathlib.Core.List.{List}
-use Prim.Native.Nat.{ℕ}
+use Rattle.params.specs.declared.answers.Verdicts.{Verdicts}
 use Rattle.detect.proofs.Scanning.{Scanned, scan_none, scan_on, scan_turn, scan_all, candidate}
 use Rattle.detect.proofs.peaks.find_in_row.Goals.{After-next_in_row-x}
 use Rattle.detect.proofs.peaks.find_in_row.Goals as goal
 
 -- the tally that the search left, and the scan where it stopped
-abbrev tallied : After-next_in_row-x → List ℕ
+abbrev tallied : After-next_in_row-x → Verdicts
 tallied c = c.next_in_row-x.new.tally
 
 on : (c : After-next_in_row-x) →

@@ -10,7 +10,7 @@ abbrev product : ℕ → ℕ → ℕ → ℕ
 product w h n = (w - 2 * n) * (h - n - n)
 
 pub loop-y-init : goal.loop-y-init
-loop-y-init c = found_none c.border-b.ensures c.requires.judging.asked.higher
+loop-y-init c = rw c.none-tally.ensures (found_none c.border-b.ensures c.requires.judging.asked.higher)
 
 pub loop-y-preserved : goal.loop-y-preserved
 loop-y-preserved c =
@@ -20,7 +20,7 @@ pub by_subtraction-requires : goal.by_subtraction-requires
 by_subtraction-requires c =
     let a = c.requires.judging.asked in
     let s = subtracts (found_inside c.loop-y.invariant (omega arith)) (ap (product c.args.scan.w c.args.scan.h) c.border-b.ensures) a.wide a.high in
-    (s.0, s.1, c.loop-y.invariant.tally.long)
+    (s.0, s.1)
 
 pub returns : goal.returns
 returns c =
