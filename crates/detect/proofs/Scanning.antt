@@ -15,6 +15,7 @@ use lib.Ieee.{Float, nan, binary32, lt, mul, in_float}
 use Rattle.float.specs.Values.{f0}
 use Rattle.grid.proofs.Fold.{fold_ext}
 use Rattle.grid.specs.Plane.{plane}
+use Rattle.grid.proofs.Plane.{row_in}
 use Rattle.grid.specs.Each.{count}
 use Rattle.grid.proofs.Each.{count_most}
 use Rattle.grid.specs.Rect.{Place, place, line}
@@ -258,6 +259,10 @@ module _ (s : Scan) (resp : List Float) (y : ℕ) (fits : y * s.w + s.w ≤ leng
   next_few {a} {i = i} b h l q =
       let found = sought_plain b h (omega (arith, row-length resp s.w y fits)) q in
       omega (arith, found.1, found.0.most, count_range_most (over s.floor row) a i)
+
+-- a row of a map that is scanned lies in its buffer
+pub row-fits : {s : Scan} {y resp image : ℕ} → Judging s resp image → y < s.h → y * s.w + s.w ≤ resp
+row-fits {s = s} j l = omega (arith, j.asked.response, row_in s.w l)
 
 -- two stretches, one after the other
 onward-on : {A B : Type 0} {k : ℕ} {f : A → List B} {p : A → Bool} {mid out new : List B} {m n r : ℕ} {l₀ l l' : List A}

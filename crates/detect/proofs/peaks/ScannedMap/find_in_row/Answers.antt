@@ -1,8 +1,8 @@
--- `detect::peaks::find_in_row` meets its contract. The invariant is `Scanned`: what the row has, up to the place where the search stands.
+-- `detect::peaks::ScannedMap::find_in_row` meets its contract. The invariant is `Scanned`: what the row has, up to the place where the search stands.
 use Rattle.params.specs.declared.answers.Verdicts.{Verdicts}
 use Rattle.detect.proofs.Scanning.{Scanned, scan_none, scan_on, scan_turn, scan_all, candidate}
-use Rattle.detect.proofs.peaks.find_in_row.Goals.{After-next_in_row-x}
-use Rattle.detect.proofs.peaks.find_in_row.Goals as goal
+use Rattle.detect.proofs.peaks.ScannedMap.find_in_row.Goals.{After-next_in_row-x}
+use Rattle.detect.proofs.peaks.ScannedMap.find_in_row.Goals as goal
 
 -- the tally that the search left, and the scan where it stopped
 abbrev tallied : After-next_in_row-x → Verdicts
@@ -10,7 +10,7 @@ tallied c = c.next_in_row-x.new.tally
 
 on : (c : After-next_in_row-x) →
     let o = c.args in
-    Scanned o.scan o.resp.now o.image.now o.y o.list.now o.tally.now c.loop-x.list (tallied c) c.next_in_row-x.result
+    Scanned o.self.now.scan o.self.now.resp.now o.self.now.image.now o.y o.list.now o.tally.now c.loop-x.list (tallied c) c.next_in_row-x.result
 on c =
     scan_on c.requires c.border-b.ensures c.loop-x.invariant c.next_in_row-x.ensures
 
