@@ -2,21 +2,21 @@
 -- Assumes nothing.
 use mathlib.Core.Path.{◌≡◌, refl, sym, ap, ◌∙◌}
 use mathlib.Core.Logic.{◌⊎◌, inl, inr}
-use mathlib.Core.Bool.{Bool, true, false, ◌||◌, ◌&&◌, cond, true≢false}
+use mathlib.Core.Bool.{Bool, true, false, ◌||◌, cond, true≢false}
 use Prim.Native.Nat.{ℕ, zero, suc, ◌+◌, ◌-◌, ◌≤◌, ◌<◌}
 use native.Mathlib.Decide.{dec_le}
 use native.Mathlib.Nat.{add-zero}
 use native.Mathlib.Omega.{arith}
 use mathlib.Core.List.{List, [], ◌∷◌, ◌++◌}
-use borrow.Author.Tests.{ltb-true, lt-ltb, le-ltb, leb-true, le-leb}
+use borrow.Author.Tests.{ltb-true, lt-ltb, le-ltb, le-leb}
 use lib.ListN.{length, take, drop, length-take, length-drop}
 use lib.Seq.{get_or-take, get_or-drop}
-use lib.Dec.{lit<, ltb, leb}
+use lib.Dec.{lit<, ltb}
 use lib.Ieee.{Float, nan, lt}
 use Rattle.std.specs.Prelude.{count_by}
 use Rattle.std.proofs.lemmas.List.{take_all}
 use Rattle.std.proofs.lemmas.List.Sums.{count_by_more_yes, count_by_more_no}
-use Rattle.sizes.proofs.Fitting.{both_true, true_both}
+use Rattle.sizes.proofs.Fitting.{true_both}
 use Rattle.grid.specs.Each.{count}
 use Rattle.grid.proofs.Each.{count_made, count_none, count_yes, count_no}
 use Rattle.grid.specs.Rect.{range, line}
@@ -73,12 +73,6 @@ module _ (p : ℕ → Bool) (a e : ℕ) where
     pub passed-one : {r : Bool} → i < e → r ≡ p i → r ≡ false → Passed p a e (i + 1)
     passed-one b h t =
         record { least = omega arith; most = omega arith; none = none-on p a i (i + 1) s.none (none-one p i (i + 1) refl (sym h ∙ t)) }
-
-    pub next_found : {r : Bool} → r ≡ p i → r ≡ true → Next p a e i
-    next_found h t = record { least = s.least; most = s.most; none = s.none; found = λ _. sym h ∙ t }
-
-    pub next_none : e ≤ i → Next p a e e
-    next_none b = record { least = omega arith; most = omega arith; none = λ k u v. s.none k u (omega arith); found = λ q. absurd (omega arith) }
 
 -- ---- how many are above
 
@@ -186,14 +180,6 @@ module _ (floor : Float) (s : List Float) where
       pub went_few : n ≤ i
       went_few = omega (arith, w.above, count_range_most (over floor s) a i)
 
-      pub went_found : {r : Bool} → r ≡ crest floor s i → r ≡ true → Next (crest floor s) a e i × (n ≡ above_from floor s a i)
-      went_found h t = (next_found (crest floor s) a e w.passed h t, w.above)
-
-      pub went_all : e ≤ i → Next (crest floor s) a e e × (n ≡ above_from floor s a e)
-      went_all b =
-          let q : i ≡ e = omega (arith, w.passed.most) in
-          (next_none (crest floor s) a e w.passed b, rw q at w.above)
-
 -- ---- the next place that is worth a verdict
 
 -- what is first in a part from a on is first from a on
@@ -208,21 +194,6 @@ next_after p q a e b l is t = record {
 }
 
 module _ (r : ℕ) (floor : Float) (s : List Float) (a e : ℕ) where
-  crest-is : 0 < r → (k : ℕ) → crest floor s k ≡ worth r floor s k
-  crest-is b k = rw (lt-ltb 0 r b)
-
-  pub worth-crest : {i n : ℕ} → 0 < r → Next (crest floor s) a e i × (n ≡ above_from floor s a i)
-      → Next (worth r floor s) a e i × (n ≡ above_from floor s a i)
-  worth-crest b (t, c) = (
-    record {
-      least = t.least;
-      most = t.most;
-      none = λ k h l. sym (crest-is b k) ∙ t.none k h l;
-      found = λ l. sym (crest-is b _) ∙ t.found l;
-    },
-    c,
-  )
-
   -- the part of the row that is searched
   abbrev part : List Float
   part = take (e - a) (drop a s)
@@ -252,12 +223,6 @@ not_worth r floor s k h = go (ltb 0 r) refl h
 
 -- ---- bounds that fit
 
-pub bounded : (a e n : ℕ) → search_fits a e n ≡ true → (1 ≤ a) × (a ≤ e) × (e < n)
-bounded a e n h =
-    let u = both_true (leb 1 a) (leb a e && ltb e n) h in
-    let v = both_true (leb a e) (ltb e n) u.1 in
-    (leb-true 1 a u.0, leb-true a e v.0, ltb-true e n v.1)
-
 pub bounds_so : (a e n : ℕ) → 1 ≤ a → a ≤ e → e < n → search_fits a e n ≡ true
 bounds_so a e n u v w = true_both (le-leb 1 a u) (true_both (le-leb a e v) (lt-ltb e n w))
 
@@ -265,10 +230,3 @@ bounds_so a e n u v w = true_both (le-leb 1 a u) (true_both (le-leb a e v) (lt-l
 pub sought_plain : {r : ℕ} {floor : Float} {s : List Float} {a e i n : ℕ} → 1 ≤ a → a ≤ e → e < length s → Sought r floor s a e i n
     → Next (worth r floor s) a e i × (n ≡ above_from floor s a i)
 sought_plain {s = s} {a = a} {e = e} u v w t = t.fitting (bounds_so a e (length s) u v w)
-
-module _ {r : ℕ} {floor : Float} {s : List Float} {a e : ℕ} {b : Bool} (is : b ≡ search_fits a e (length s)) where
-  pub sought_next : {i n : ℕ} → b ≡ true → Next (worth r floor s) a e i × (n ≡ above_from floor s a i) → Sought r floor s a e i n
-  sought_next h t = record { fitting = λ _. t; none = λ u. absurd (true≢false (sym h ∙ is ∙ u)) }
-
-  pub sought_none : b ≡ false → Sought r floor s a e e 0
-  sought_none h = record { fitting = λ u. absurd (true≢false (sym u ∙ sym is ∙ h)); none = λ _. (refl, refl) }
