@@ -5,13 +5,15 @@ use mathlib.Core.Bool.{Bool, true, false, not, ◌&&◌, true≢false}
 use Prim.Native.Nat.{ℕ, zero, suc, ◌+◌, ◌-◌, ◌*◌, ◌/◌, ◌≤◌, ◌<◌, ◌^◌}
 use native.Mathlib.Omega.{arith}
 use mathlib.Core.List.{List, [], ◌∷◌}
-use borrow.Author.Tests.{ne_eqb}
+use borrow.Author.Tests.{ltb-false, ne_eqb}
 use native.Mathlib.Nat.{add-zero, div-add-mod'}
 use lib.ListN.{length, get_or, take, drop, length-take, length-drop}
 use lib.Seq.{sets, length-take-le, get_or-take, get_or-drop}
-use lib.Dec.{T, leb, eqb, le→leb}
+use lib.Dec.{T, ltb, leb, eqb, le→leb}
 use lib.IntN.{pos}
 use lib.Ieee.{Float, nan, binary32, lt, mul, in_float}
+use Rattle.std.specs.Bool.{then_some}
+use Rattle.std.specs.Prelude.{unwrap_or}
 use Rattle.float.specs.Values.{f0}
 use Rattle.grid.proofs.Fold.{fold_ext}
 use Rattle.grid.specs.Plane.{plane}
@@ -259,6 +261,14 @@ module _ (s : Scan) (resp : List Float) (y : ℕ) (fits : y * s.w + s.w ≤ leng
   next_few {a} {i = i} b h l q =
       let found = sought_plain b h (omega (arith, row-length resp s.w y fits)) q in
       omega (arith, found.1, found.0.most, count_range_most (over s.floor row) a i)
+
+-- none before the end is the end
+pub end_or : (i e : ℕ) → i ≤ e → unwrap_or (then_some (ltb i e) i) e ≡ i
+end_or i e l = go (ltb i e) refl
+  where
+    go : (b : Bool) → ltb i e ≡ b → unwrap_or (then_some b i) e ≡ i
+    go true u = refl
+    go false u = let m : e ≤ i = ltb-false i e u in omega arith
 
 -- a row of a map that is scanned lies in its buffer
 pub row-fits : {s : Scan} {y resp image : ℕ} → Judging s resp image → y < s.h → y * s.w + s.w ≤ resp

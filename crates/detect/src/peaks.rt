@@ -8,7 +8,7 @@
 //
 // The tally has every candidate that is above the floor: those that are passed over and above it are beaten, for a neighbour in the row is greater,
 // and the search counts them as it goes. Who is left is not above: `by_subtraction`.
-ghost use Rattle.std.specs.Prelude.{◌≡◌, ◌+◌, ◌*◌, ◌/◌, ◌<◌, ◌≤◌, [], ◌∷◌, length};
+ghost use Rattle.std.specs.Prelude.{◌≡◌, ◌+◌, ◌*◌, ◌/◌, ◌<◌, ◌≤◌, [], ◌∷◌, length, unwrap_or, IfSome};
 ghost use Rattle.std.proofs.lemmas.List.Edits.{sets};
 ghost use Rattle.grid.specs.Rect.{place};
 ghost use Rattle.detect.specs.Corners.{stride};
@@ -134,12 +134,13 @@ impl<'a> ScannedMap<'a> {
         count(tally, v);
     }
 
-    // The next place of row y from `from` on, and before `to`, that may be kept; `to` where there is none. What is passed over and above the
-    // floor is beaten: it is tallied.
-    fn next_in_row(&self, y: usize, from: usize, to: usize, tally: &mut Verdicts) -> usize
+    // The next place of row y from `from` on, and before `to`, that may be kept. What is passed over and above the floor is beaten: it is
+    // tallied.
+    fn next_in_row(&self, y: usize, from: usize, to: usize, tally: &mut Verdicts) -> Option<usize>
         requires within_row { (1 ≤ from) × (from ≤ to) × (to < self.now.scan.w) × (y < self.now.scan.h) }
         requires tally { Tally tally.old (8192 * 8192) }
-        ensures { NextInRow self.now.scan self.now.resp.now y from to result tally.old tally.new }
+        ensures passed { NextInRow self.now.scan self.now.resp.now y from to (unwrap_or result to) tally.old tally.new }
+        ensures within { IfSome result (λ x. x < to) }
     {
         let scan = self.scan;
         let a = y * scan.w;
@@ -151,7 +152,7 @@ impl<'a> ScannedMap<'a> {
             scan.params.nms_radius as usize,
         );
         tally.beaten += next.above;
-        next.end
+        (next.end < to).then_some(next.end)
     }
 
     // The candidates of row y, after those above it.
@@ -161,14 +162,10 @@ impl<'a> ScannedMap<'a> {
     {
         let b = self.scan.params.border();
         let ex = self.scan.w - b;
-        // No `for`: the search says how far the next step goes.
-        let mut x = b;
-        while x < ex {
-            x = self.next_in_row(y, x, ex, tally);
-            if x < ex {
-                self.judge_and_list(x, y, tally, list);
-                x += 1;
-            }
+        let mut from = b;
+        while let Some(x) = self.next_in_row(y, from, ex, tally) {
+            self.judge_and_list(x, y, tally, list);
+            from = x + 1;
         }
     }
 
