@@ -1,5 +1,5 @@
 // Crests: the places of a row that are worth a verdict. Most values are at or under the floor, and are passed over eight at a time.
-ghost use Rattle.std.specs.Prelude.{◌≡◌, Bool, ℕ, ◌+◌, ◌≤◌, ◌<◌, length};
+ghost use Rattle.std.specs.Prelude.{◌≡◌, Bool, ℕ, ◌+◌, ◌^◌, ◌≤◌, ◌<◌, length};
 ghost use Rattle.grid.specs.Each.{count};
 ghost use Rattle.grid.specs.Rect.{range};
 ghost use Rattle.crests.specs.Crests.{over, longest, above_count, above_from, crest, worth, four, eight, Passed, Went, Next};
@@ -27,7 +27,7 @@ pub fn count_above(s: &[f32], floor: f32) -> u32
 
 // Whether the test says yes of one of the four places from i on. All four are asked, so that no branch stands between them.
 fn four<F: Fn(usize) -> bool>(test: F, i: usize) -> bool
-    requires fits { i + 4 < 18446744073709551616 }
+    requires fits { i + 4 < 2 ^ 64 }
     requires callable { (k : ℕ) → i ≤ k → k < i + 4 → F.pre test k }
     ensures { (p : ℕ → Bool) → ((k : ℕ) (b : Bool) → i ≤ k → k < i + 4 → F.post test k b → b ≡ p k) → result ≡ four p i }
 {
@@ -36,7 +36,7 @@ fn four<F: Fn(usize) -> bool>(test: F, i: usize) -> bool
 
 // The same of the eight from i on.
 fn eight<F: Fn(usize) -> bool>(test: F, i: usize) -> bool
-    requires fits { i + 8 < 18446744073709551616 }
+    requires fits { i + 8 < 2 ^ 64 }
     requires callable { (k : ℕ) → i ≤ k → k < i + 8 → F.pre test k }
     ensures { (p : ℕ → Bool) → ((k : ℕ) (b : Bool) → i ≤ k → k < i + 8 → F.post test k b → b ≡ p k) → result ≡ eight p i }
 {
