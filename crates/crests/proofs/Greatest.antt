@@ -2,16 +2,21 @@
 -- Assumes nothing.
 use mathlib.Core.Path.{◌≡◌, refl, sym, ◌∙◌}
 use mathlib.Core.Bool.{Bool, true, false, cond}
-use Prim.Native.Nat.{ℕ, ◌+◌, ◌-◌, ◌≤◌}
+use Prim.Native.Nat.{ℕ, zero, suc, ◌+◌, ◌-◌, ◌≤◌}
 use native.Mathlib.Nat.{add-zero}
 use native.Mathlib.Omega.{arith}
+use mathlib.Core.List.{List}
+use lib.ListN.{length, get_or, take, drop, length-drop}
+use lib.Seq.{get_or-drop}
 use lib.Dec.{T}
 use lib.Ieee.{Float, nan, inf, fin, lt, le, of_bits, is_nan}
+use Rattle.std.specs.List.{fold as list-fold}
+use Rattle.std.proofs.lemmas.List.Sums.{fold_more as list_fold-more}
 use Rattle.float.specs.Values.{f0}
 use Rattle.float.proofs.Order.{lt_le, le_lt_trans, le_of_not_lt, lt_itself}
 use Rattle.grid.specs.Fold.{fold}
-use Rattle.grid.proofs.Fold.{fold_keeps, fold-first, fold_still, fold_split, Folding, folding_none, folding_part, folding_rest}
-use Rattle.crests.specs.Maximum.{greater}
+use Rattle.grid.proofs.Fold.{fold-none, fold_on, fold_ext, fold_keeps, fold-first, fold_still, fold_split, Folding, folding_none, folding_part, folding_rest}
+use Rattle.crests.specs.Maximum.{entry, greater}
 use Rattle.crests.specs.Crests.{eight}
 use Rattle.crests.proofs.Passing.{none-eight}
 
@@ -36,6 +41,23 @@ eight_still f i {m} h u =
     (λ k b.
     let t : lt m (f (i + k)) ≡ false = none-eight (λ k. lt m (f k)) i (sym h ∙ u) (i + k) (omega arith) (omega arith) in
     rw t)
+
+-- ---- a list's entries, one after the other, are those of its places
+
+list_fold : {A B : Type 0} (op : A → B → A) (z : A) (l : List B) (d : B) (i : ℕ) → i ≤ length l
+    → list-fold op z (take i l) ≡ fold op z (λ k. get_or l k d) i
+list_fold op z l d zero h = fold-none op z _ 0 refl
+list_fold op z l d (suc i) h =
+    let e : suc i ≡ i + 1 = omega arith in
+    rw e (list_fold-more op z l i d (omega arith) ∙ fold_on op z (λ k. get_or l k d) i (i + 1) refl refl (list_fold op z l d i (omega arith)))
+
+-- a part of a buffer, from a to below e
+pub part_folded : (s : List Float) (a e : ℕ) (m : Float) → a ≤ e → e ≤ length s
+    → list-fold greater m (take (e - a) (drop a s)) ≡ fold greater m (λ k. entry s (a + k)) (e - a)
+part_folded s a e m h b =
+    let r = drop a s in
+    let long : e - a ≤ length r = simp length-drop (omega arith) in
+    list_fold greater m r nan (e - a) long ∙ fold_ext greater m _ _ (e - a) (λ k v. get_or-drop a s k nan)
 
 -- ---- in parts
 

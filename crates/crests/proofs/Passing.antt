@@ -2,22 +2,25 @@
 -- Assumes nothing.
 use mathlib.Core.Path.{◌≡◌, refl, sym, ap, ◌∙◌}
 use mathlib.Core.Logic.{◌⊎◌, inl, inr}
-use mathlib.Core.Bool.{Bool, true, false, ◌||◌, ◌&&◌, cond, true≢false}
-use Prim.Native.Nat.{ℕ, ◌+◌, ◌-◌, ◌≤◌, ◌<◌}
+use mathlib.Core.Bool.{Bool, true, false, ◌||◌, cond, true≢false}
+use Prim.Native.Nat.{ℕ, zero, suc, ◌+◌, ◌-◌, ◌≤◌, ◌<◌}
 use native.Mathlib.Decide.{dec_le}
 use native.Mathlib.Nat.{add-zero}
 use native.Mathlib.Omega.{arith}
-use mathlib.Core.List.{List}
-use borrow.Author.Tests.{ltb-true, lt-ltb, le-ltb, leb-true, le-leb}
+use mathlib.Core.List.{List, [], ◌∷◌, ◌++◌}
+use borrow.Author.Tests.{ltb-true, lt-ltb, le-ltb, le-leb}
 use lib.ListN.{length, take, drop, length-take, length-drop}
 use lib.Seq.{get_or-take, get_or-drop}
-use lib.Dec.{lit<, ltb, leb}
+use lib.Dec.{lit<, ltb}
 use lib.Ieee.{Float, nan, lt}
-use Rattle.sizes.proofs.Fitting.{both_true, true_both}
+use Rattle.std.specs.Prelude.{count_by}
+use Rattle.std.proofs.lemmas.List.{take_all}
+use Rattle.std.proofs.lemmas.List.Sums.{count_by_more_yes, count_by_more_no}
+use Rattle.sizes.proofs.Fitting.{true_both}
 use Rattle.grid.specs.Each.{count}
-use Rattle.grid.proofs.Each.{count_made, count_yes, count_no}
+use Rattle.grid.proofs.Each.{count_made, count_none, count_yes, count_no}
 use Rattle.grid.specs.Rect.{range, line}
-use Rattle.grid.proofs.Rect.{range_more, range_made, count-line, count_range_ext, count_range_on, count_range_most, count_range_none}
+use Rattle.grid.proofs.Rect.{range_none, range_more, range_made, count-line, count_range_ext, count_range_on, count_range_most, count_range_none}
 use Rattle.crests.specs.Maximum.{entry}
 use Rattle.crests.specs.Crests.{over, longest, above_count, above_from, crest, worth, four, eight, None, Passed, Went, Next, search_fits, Sought}
 
@@ -71,13 +74,23 @@ module _ (p : ℕ → Bool) (a e : ℕ) where
     passed-one b h t =
         record { least = omega arith; most = omega arith; none = none-on p a i (i + 1) s.none (none-one p i (i + 1) refl (sym h ∙ t)) }
 
-    pub next_found : {r : Bool} → r ≡ p i → r ≡ true → Next p a e i
-    next_found h t = record { least = s.least; most = s.most; none = s.none; found = λ _. sym h ∙ t }
-
-    pub next_none : e ≤ i → Next p a e e
-    next_none b = record { least = omega arith; most = omega arith; none = λ k u v. s.none k u (omega arith); found = λ q. absurd (omega arith) }
-
 -- ---- how many are above
+
+-- the entries above a floor, by their places
+above_one : (floor : Float) (s : List Float) (i : ℕ) → i < length s → (t : Bool) → over floor s i ≡ t
+    → count_by (lt floor) (take i s) ≡ count (over floor s) (range 0 i)
+    → count_by (lt floor) (take (i + 1) s) ≡ count (over floor s) (range 0 i ++ (i ∷ []))
+above_one floor s i b true u h = count_by_more_yes (lt floor) s i nan b u ∙ count_yes (over floor s) (range 0 i) i h u
+above_one floor s i b false u h = count_by_more_no (lt floor) s i nan b u ∙ count_no (over floor s) (range 0 i) i h u
+
+pub above-entries : (floor : Float) (s : List Float) → count_by (lt floor) s ≡ count (over floor s) (range 0 (length s))
+above-entries floor s = rw (take_all (length s) s (omega arith)) at (go (length s) (omega arith))
+  where
+    go : (i : ℕ) → i ≤ length s → count_by (lt floor) (take i s) ≡ count (over floor s) (range 0 i)
+    go zero b = rw range_none (count_none _)
+    go (suc i) b =
+        let e : suc i ≡ i + 1 = omega arith in
+        rw (e, range_more 0 i (omega arith)) (above_one floor s i (omega arith) (over floor s i) refl (go i (omega arith)))
 
 -- a part of row y, from column a to before e, counts what the row has there
 pub part-above : (floor : Float) (f : ℕ → ℕ → Float) (part : List Float) (a e y : ℕ) {n : ℕ} → length part ≡ e - a → e - a ≤ longest
@@ -167,14 +180,6 @@ module _ (floor : Float) (s : List Float) where
       pub went_few : n ≤ i
       went_few = omega (arith, w.above, count_range_most (over floor s) a i)
 
-      pub went_found : {r : Bool} → r ≡ crest floor s i → r ≡ true → Next (crest floor s) a e i × (n ≡ above_from floor s a i)
-      went_found h t = (next_found (crest floor s) a e w.passed h t, w.above)
-
-      pub went_all : e ≤ i → Next (crest floor s) a e e × (n ≡ above_from floor s a e)
-      went_all b =
-          let q : i ≡ e = omega (arith, w.passed.most) in
-          (next_none (crest floor s) a e w.passed b, rw q at w.above)
-
 -- ---- the next place that is worth a verdict
 
 -- what is first in a part from a on is first from a on
@@ -189,21 +194,6 @@ next_after p q a e b l is t = record {
 }
 
 module _ (r : ℕ) (floor : Float) (s : List Float) (a e : ℕ) where
-  crest-is : 0 < r → (k : ℕ) → crest floor s k ≡ worth r floor s k
-  crest-is b k = rw (lt-ltb 0 r b)
-
-  pub worth-crest : {i n : ℕ} → 0 < r → Next (crest floor s) a e i × (n ≡ above_from floor s a i)
-      → Next (worth r floor s) a e i × (n ≡ above_from floor s a i)
-  worth-crest b (t, c) = (
-    record {
-      least = t.least;
-      most = t.most;
-      none = λ k h l. sym (crest-is b k) ∙ t.none k h l;
-      found = λ l. sym (crest-is b _) ∙ t.found l;
-    },
-    c,
-  )
-
   -- the part of the row that is searched
   abbrev part : List Float
   part = take (e - a) (drop a s)
@@ -233,12 +223,6 @@ not_worth r floor s k h = go (ltb 0 r) refl h
 
 -- ---- bounds that fit
 
-pub bounded : (a e n : ℕ) → search_fits a e n ≡ true → (1 ≤ a) × (a ≤ e) × (e < n)
-bounded a e n h =
-    let u = both_true (leb 1 a) (leb a e && ltb e n) h in
-    let v = both_true (leb a e) (ltb e n) u.1 in
-    (leb-true 1 a u.0, leb-true a e v.0, ltb-true e n v.1)
-
 pub bounds_so : (a e n : ℕ) → 1 ≤ a → a ≤ e → e < n → search_fits a e n ≡ true
 bounds_so a e n u v w = true_both (le-leb 1 a u) (true_both (le-leb a e v) (lt-ltb e n w))
 
@@ -246,10 +230,3 @@ bounds_so a e n u v w = true_both (le-leb 1 a u) (true_both (le-leb a e v) (lt-l
 pub sought_plain : {r : ℕ} {floor : Float} {s : List Float} {a e i n : ℕ} → 1 ≤ a → a ≤ e → e < length s → Sought r floor s a e i n
     → Next (worth r floor s) a e i × (n ≡ above_from floor s a i)
 sought_plain {s = s} {a = a} {e = e} u v w t = t.fitting (bounds_so a e (length s) u v w)
-
-module _ {r : ℕ} {floor : Float} {s : List Float} {a e : ℕ} {b : Bool} (is : b ≡ search_fits a e (length s)) where
-  pub sought_next : {i n : ℕ} → b ≡ true → Next (worth r floor s) a e i × (n ≡ above_from floor s a i) → Sought r floor s a e i n
-  sought_next h t = record { fitting = λ _. t; none = λ u. absurd (true≢false (sym h ∙ is ∙ u)) }
-
-  pub sought_none : b ≡ false → Sought r floor s a e e 0
-  sought_none h = record { fitting = λ u. absurd (true≢false (sym u ∙ sym is ∙ h)); none = λ _. (refl, refl) }

@@ -1,5 +1,5 @@
 // Crests: the places of a row that are worth a verdict. Most values are at or under the floor, and are passed over eight at a time.
-ghost use Rattle.std.specs.Prelude.{◌≡◌, ◌+◌, ◌≤◌, ◌<◌, length};
+ghost use Rattle.std.specs.Prelude.{◌≡◌, Bool, ℕ, ◌+◌, ◌^◌, ◌≤◌, ◌<◌, length};
 ghost use Rattle.grid.specs.Each.{count};
 ghost use Rattle.grid.specs.Rect.{range};
 ghost use Rattle.crests.specs.Crests.{over, longest, above_count, above_from, crest, worth, four, eight, Passed, Went, Next};
@@ -12,14 +12,7 @@ fn above_in(part: &[f32], floor: f32) -> u32
     requires { length part.now ≤ longest }
     ensures { result ≡ count (over floor part.now) (range 0 (length part.now)) }
 {
-    let e = part.len();
-    let mut n: u32 = 0;
-    for i in 0..e {
-        if part[i] > floor {
-            n += 1;
-        }
-    }
-    n
+    part.iter().map(|v| u32::from(*v > floor)).sum()
 }
 
 // How many values are above the floor. A slice that is too long for a u32 to count has none.
@@ -32,12 +25,22 @@ pub fn count_above(s: &[f32], floor: f32) -> u32
     0
 }
 
-// Whether one of the four values from i on is above the floor.
-fn four_above(s: &[f32], i: usize, floor: f32) -> bool
-    requires { i + 4 ≤ length s.now }
-    ensures { result ≡ four (over floor s.now) i }
+// Whether the test says yes of one of the four places from i on. All four are asked, so that no branch stands between them.
+fn four<F: Fn(usize) -> bool>(test: F, i: usize) -> bool
+    requires fits { i + 4 < 2 ^ 64 }
+    requires callable { (k : ℕ) → i ≤ k → k < i + 4 → F.pre test k }
+    ensures { (p : ℕ → Bool) → ((k : ℕ) (b : Bool) → i ≤ k → k < i + 4 → F.post test k b → b ≡ p k) → result ≡ four p i }
 {
-    (s[i] > floor) | (s[i + 1] > floor) | (s[i + 2] > floor) | (s[i + 3] > floor)
+    test(i) | test(i + 1) | test(i + 2) | test(i + 3)
+}
+
+// The same of the eight from i on.
+fn eight<F: Fn(usize) -> bool>(test: F, i: usize) -> bool
+    requires fits { i + 8 < 2 ^ 64 }
+    requires callable { (k : ℕ) → i ≤ k → k < i + 8 → F.pre test k }
+    ensures { (p : ℕ → Bool) → ((k : ℕ) (b : Bool) → i ≤ k → k < i + 8 → F.post test k b → b ≡ p k) → result ≡ eight p i }
+{
+    four(&test, i) | four(&test, i + 4)
 }
 
 // Whether one of the eight values from i on is above the floor. All eight are compared, so that no branch stands between them.
@@ -46,22 +49,20 @@ pub fn eight_above(s: &[f32], i: usize, floor: f32) -> bool
     requires { i + 8 ≤ length s.now }
     ensures { result ≡ eight (over floor s.now) i }
 {
-    four_above(s, i, floor) | four_above(s, i + 4, floor)
+    eight(|k| s[k] > floor, i)
 }
 
 // How far eights without a value above the floor go.
 fn pass_eights(s: &[f32], floor: f32) -> usize
     ensures { Passed (over floor s.now) 0 (length s.now) result }
 {
-    let n = s.len();
-    let mut i = 0;
-    while n - i >= 8 {
-        if eight_above(s, i, floor) {
-            return i;
+    let eights = s.len() / 8;
+    for k in 0..eights {
+        if eight_above(s, 8 * k, floor) {
+            return 8 * k;
         }
-        i += 8;
     }
-    i
+    8 * eights
 }
 
 // The first place whose value is above the floor; the slice's length where there is none.
@@ -69,12 +70,10 @@ pub fn first_above(s: &[f32], floor: f32) -> usize
     ensures { Next (over floor s.now) 0 (length s.now) result }
 {
     let n = s.len();
-    let mut i = pass_eights(s, floor);
-    while i < n {
+    for i in pass_eights(s, floor)..n {
         if s[i] > floor {
             return i;
         }
-        i += 1;
     }
     n
 }
@@ -88,23 +87,12 @@ fn is_crest(s: &[f32], k: usize, floor: f32) -> bool
     (v > floor) & (!(s[k - 1] > v) & !(s[k + 1] > v))
 }
 
-// Whether one of the four places from i on is such a crest.
-fn four_crests(s: &[f32], i: usize, floor: f32) -> bool
-    requires { (1 ≤ i) × (i + 4 < length s.now) }
-    ensures { result ≡ four (crest floor s.now) i }
-{
-    is_crest(s, i, floor)
-        | is_crest(s, i + 1, floor)
-        | is_crest(s, i + 2, floor)
-        | is_crest(s, i + 3, floor)
-}
-
-// Whether one of the eight is.
+// Whether one of the eight places from i on is such a crest.
 fn eight_crests(s: &[f32], i: usize, floor: f32) -> bool
     requires { (1 ≤ i) × (i + 8 < length s.now) }
     ensures { result ≡ eight (crest floor s.now) i }
 {
-    four_crests(s, i, floor) | four_crests(s, i + 4, floor)
+    eight(|k| is_crest(s, k, floor), i)
 }
 
 // Where a search along a row stands, and how many of the places that it passed are above the floor.
@@ -120,18 +108,21 @@ fn pass_flat_eights(s: &[f32], from: usize, to: usize, floor: f32) -> Stretch
     requires { (1 ≤ from) × (from ≤ to) × (to < length s.now) }
     ensures { Went floor s.now from to result.end result.above }
 {
-    let mut i = from;
+    let eights = (to - from) / 8;
     let mut above: usize = 0;
-    while to - i >= 8 {
+    for k in 0..eights {
+        let i = from + 8 * k;
         if eight_above(s, i, floor) {
             if eight_crests(s, i, floor) {
                 return Stretch { end: i, above };
             }
             above += above_in(&s[i..i + 8], floor) as usize;
         }
-        i += 8;
     }
-    Stretch { end: i, above }
+    Stretch {
+        end: from + 8 * eights,
+        above,
+    }
 }
 
 // The first crest from `from` on and before `to`; `to` where there is none.
@@ -140,16 +131,14 @@ fn next_crest(s: &[f32], from: usize, to: usize, floor: f32) -> Stretch
     ensures { Next (crest floor s.now) from to result.end × (result.above ≡ above_from floor s.now from result.end) }
 {
     let eights = pass_flat_eights(s, from, to, floor);
-    let mut k = eights.end;
     let mut above = eights.above;
-    while k < to {
+    for k in eights.end..to {
         if s[k] > floor {
             if is_crest(s, k, floor) {
                 return Stretch { end: k, above };
             }
             above += 1;
         }
-        k += 1;
     }
     Stretch { end: to, above }
 }

@@ -20,11 +20,7 @@ fn raised(s: &[f32], a: usize, e: usize, m: f32) -> f32
     requires { (a ≤ e) × (e ≤ length s.now) }
     ensures { result ≡ fold greater m (λ k. entry s.now (a + k)) (e - a) }
 {
-    let mut max = m;
-    for i in a..e {
-        max = greater_of(max, s[i]);
-    }
-    max
+    s[a..e].iter().fold(m, |max, v| greater_of(max, *v))
 }
 
 // What m becomes over the eight entries from i on: mostly none of them is above it.
@@ -50,14 +46,15 @@ pub fn max_response(s: &[f32]) -> f32
     let mut m1 = 0.0f32;
     let mut m2 = 0.0f32;
     let mut m3 = 0.0f32;
-    let mut i = 0;
-    while second - i >= 8 {
+    let eights = second / 8;
+    for k in 0..eights {
+        let i = 8 * k;
         m0 = raised_eight(s, i, m0);
         m1 = raised_eight(s, second + i, m1);
         m2 = raised_eight(s, third + i, m2);
         m3 = raised_eight(s, fourth + i, m3);
-        i += 8;
     }
+    let i = 8 * eights;
     m0 = raised(s, i, second, m0);
     m1 = raised(s, second + i, third, m1);
     m2 = raised(s, third + i, fourth, m2);

@@ -1,10 +1,10 @@
 -- The scan over the rows, and at its end the six counts: what was tallied, and the rest by subtraction. Assumes nothing.
 use mathlib.Core.Path.{◌≡◌, refl, sym, ap, ◌∙◌}
-use Prim.Native.Nat.{ℕ, zero, suc, ◌+◌, ◌-◌, ◌*◌, ◌≤◌, ◌<◌}
+use Prim.Native.Nat.{ℕ, ◌+◌, ◌-◌, ◌*◌, ◌≤◌, ◌<◌}
 use native.Mathlib.Nat.{mul-le-mul}
 use native.Mathlib.Omega.{arith}
 use mathlib.Core.List.{List}
-use lib.ListN.{length, get_or, replicate}
+use lib.ListN.{length}
 use lib.Ieee.{Float}
 use Rattle.grid.proofs.Plane.{row_in}
 use Rattle.grid.specs.Each.{count}
@@ -14,47 +14,44 @@ use Rattle.grid.proofs.Rect.{length-rect, Down, down-none, down_all}
 use Rattle.grid.specs.Over.{Listed}
 use Rattle.grid.proofs.Over.{listed_none}
 use Rattle.params.specs.declared.answers.Verdicts.{Verdicts}
+use Rattle.params.specs.Answers.{no_verdicts}
 use Rattle.verdict.specs.declared.Scan.{Scan}
 use Rattle.verdict.specs.declared.Verdict.{Verdict}
 use Rattle.verdict.specs.declared.Verdict.TheVariants.{NotAbove, Beaten, TooFew, TooFlat, WrongCurvature, Kept}
+use Rattle.verdict.specs.Verdict.{rank}
 use Rattle.detect.specs.Corners.{candidates, corners, having, verdicts_of, stride}
 use Rattle.detect.specs.Scan.{floor_in, verdict_in, kept_in, ranked, numbers_in, border_in}
-use Rattle.detect.specs.Scan.{Tally, kept_of, above_of, by_subtraction, Judging, Finding, RowFound, Found}
+use Rattle.detect.specs.Scan.{Tally, count_of, above_of, by_subtraction, Judging, Finding, RowFound, Found}
 use Rattle.detect.proofs.Tally.{of, six_are_all}
 
 -- ---- the scan over the rows: the list and the tally, of the places l
 
-pub record Summed (s : Scan) (resp : List Float) (image : List ℕ) (old out : List Float) (t : List ℕ) (l : List Place) : Type 0 where
-  pub list : Listed stride (numbers_in s resp) (kept_in s resp image) old out (kept_of t) l
-  pub counts : (k : ℕ) → 1 ≤ k → k < 6 → get_or t k 0 ≡ count (ranked s resp image k) l
+pub record Summed (s : Scan) (resp : List Float) (image : List ℕ) (old out : List Float) (t : Verdicts) (l : List Place) : Type 0 where
+  pub list : Listed stride (numbers_in s resp) (kept_in s resp image) old out t.kept l
+  pub counts : (v : Verdict) → 1 ≤ rank v → count_of v t ≡ count (ranked s resp image (rank v)) l
 
-pub record FoundTo (s : Scan) (resp : List Float) (image : List ℕ) (old out : List Float) (t : List ℕ) (y : ℕ) : Type 0 where
+pub record FoundTo (s : Scan) (resp : List Float) (image : List ℕ) (old out : List Float) (t : Verdicts) (y : ℕ) : Type 0 where
   pub down : Down (Summed s resp image old out t) (border_in s) (s.w - border_in s) (border_in s) (s.h - border_in s) y
   pub tally : Tally t (8192 * y)
 
--- six zeros
-abbrev none : List ℕ
-none = replicate 6 0
-
-zeros : (k : ℕ) → get_or none k 0 ≡ 0
-zeros zero = refl
-zeros (suc zero) = refl
-zeros (suc (suc zero)) = refl
-zeros (suc (suc (suc zero))) = refl
-zeros (suc (suc (suc (suc zero)))) = refl
-zeros (suc (suc (suc (suc (suc zero))))) = refl
-zeros (suc (suc (suc (suc (suc (suc k)))))) = refl
+zeros : (v : Verdict) → count_of v no_verdicts ≡ 0
+zeros NotAbove = refl
+zeros Beaten = refl
+zeros TooFew = refl
+zeros TooFlat = refl
+zeros WrongCurvature = refl
+zeros Kept = refl
 
 module _ {s : Scan} {resp : List Float} {image : List ℕ} {old : List Float} where
-  pub found_none : {b : ℕ} → b ≡ border_in s → 2 * border_in s < s.h → FoundTo s resp image old old none b
+  pub found_none : {b : ℕ} → b ≡ border_in s → 2 * border_in s < s.h → FoundTo s resp image old old no_verdicts b
   found_none e b =
       rw e (record {
         down = down-none _ _ _ _ _ (omega arith)
-            (record { list = listed_none _ _ _ _; counts = λ k _ _. zeros k ∙ count_none _ });
-        tally = record { long = refl; few = λ k. omega (arith, zeros k) };
+            (record { list = listed_none _ _ _ _; counts = λ v _. zeros v ∙ count_none _ });
+        tally = record { not_above = omega arith; beaten = omega arith; too_few = omega arith; too_flat = omega arith; wrong_curvature = omega arith; kept = omega arith };
       })
 
-  module _ {out : List Float} {t : List ℕ} {y : ℕ} (c : FoundTo s resp image old out t y) where
+  module _ {out : List Float} {t : Verdicts} {y : ℕ} (c : FoundTo s resp image old out t y) where
     pub finding : Judging s (length resp) (length image) → y < s.h - border_in s → Finding s y t (length resp) (length image)
     finding j b =
         let l : y < s.h = omega arith in
@@ -66,7 +63,7 @@ module _ {s : Scan} {resp : List Float} {image : List ℕ} {old : List Float} wh
           tally = c.tally;
         }
 
-    pub found_more : {new : List Float} {u : List ℕ} → y < s.h - border_in s → RowFound s resp image y out t new u
+    pub found_more : {new : List Float} {u : Verdicts} → y < s.h - border_in s → RowFound s resp image y out t new u
         → FoundTo s resp image old new u (y + 1)
     found_more b q =
         let h = c.down.holds in
@@ -74,7 +71,7 @@ module _ {s : Scan} {resp : List Float} {image : List ℕ} {old : List Float} wh
           down = record {
             least = omega arith;
             most = omega arith;
-            holds = record { list = q.onward.on old h.list; counts = λ k g m. q.tallied.on k g m (h.counts k g m) };
+            holds = record { list = q.onward.on old h.list; counts = λ v g. q.tallied.on v g (h.counts v g) };
           };
           tally = q.tally;
         }
@@ -85,7 +82,7 @@ module _ {s : Scan} {resp : List Float} {image : List ℕ} {old : List Float} wh
 
 -- ---- the counts
 
-module _ {s : Scan} {resp : List Float} {image : List ℕ} {old out : List Float} {t : List ℕ}
+module _ {s : Scan} {resp : List Float} {image : List ℕ} {old out : List Float} {t : Verdicts}
     (h : Summed s resp image old out t (candidates s.w s.h (border_in s)))
     {all : ℕ} (are : all ≡ (s.w - 2 * border_in s) * (s.h - border_in s - border_in s)) where
   abbrev inside : List Place
@@ -106,11 +103,11 @@ module _ {s : Scan} {resp : List Float} {image : List ℕ} {old out : List Float
   rest =
       omega (
         arith,
-        h.counts 1 (omega arith) (omega arith),
-        h.counts 2 (omega arith) (omega arith),
-        h.counts 3 (omega arith) (omega arith),
-        h.counts 4 (omega arith) (omega arith),
-        h.counts 5 (omega arith) (omega arith),
+        h.counts Beaten (omega arith),
+        h.counts TooFew (omega arith),
+        h.counts TooFlat (omega arith),
+        h.counts WrongCurvature (omega arith),
+        h.counts Kept (omega arith),
         all_is,
         six_are_all (verdict_in s resp image) inside,
       )
@@ -136,11 +133,11 @@ module _ {s : Scan} {resp : List Float} {image : List ℕ} {old out : List Float
         kept = those Kept;
       } = λ i. record {
         not_above = beside i;
-        beaten = h.counts 1 (omega arith) (omega arith) i;
-        too_few = h.counts 2 (omega arith) (omega arith) i;
-        too_flat = h.counts 3 (omega arith) (omega arith) i;
-        wrong_curvature = h.counts 4 (omega arith) (omega arith) i;
-        kept = h.counts 5 (omega arith) (omega arith) i;
+        beaten = h.counts Beaten (omega arith) i;
+        too_few = h.counts TooFew (omega arith) i;
+        too_flat = h.counts TooFlat (omega arith) i;
+        wrong_curvature = h.counts WrongCurvature (omega arith) i;
+        kept = h.counts Kept (omega arith) i;
       } in
       record {
         verdicts = q ∙ rw e at is;

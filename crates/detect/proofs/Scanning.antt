@@ -5,16 +5,19 @@ use mathlib.Core.Bool.{Bool, true, false, not, ◌&&◌, true≢false}
 use Prim.Native.Nat.{ℕ, zero, suc, ◌+◌, ◌-◌, ◌*◌, ◌/◌, ◌≤◌, ◌<◌, ◌^◌}
 use native.Mathlib.Omega.{arith}
 use mathlib.Core.List.{List, [], ◌∷◌}
-use borrow.Author.Tests.{ltb-true, ltb-false, ne_eqb}
-use native.Mathlib.Nat.{div-add-mod'}
+use borrow.Author.Tests.{ltb-false, ne_eqb}
+use native.Mathlib.Nat.{add-zero, div-add-mod'}
 use lib.ListN.{length, get_or, take, drop, length-take, length-drop}
 use lib.Seq.{sets, length-take-le, get_or-take, get_or-drop}
 use lib.Dec.{T, ltb, leb, eqb, le→leb}
 use lib.IntN.{pos}
 use lib.Ieee.{Float, nan, binary32, lt, mul, in_float}
+use Rattle.std.specs.Bool.{then_some}
+use Rattle.std.specs.Prelude.{unwrap_or}
 use Rattle.float.specs.Values.{f0}
 use Rattle.grid.proofs.Fold.{fold_ext}
 use Rattle.grid.specs.Plane.{plane}
+use Rattle.grid.proofs.Plane.{row_in}
 use Rattle.grid.specs.Each.{count}
 use Rattle.grid.proofs.Each.{count_most}
 use Rattle.grid.specs.Rect.{Place, place, line}
@@ -23,14 +26,15 @@ use Rattle.grid.proofs.Rect.{any_in, length-line, down_more, Across, across_none
 use Rattle.grid.specs.Ways.{pixel, value}
 use Rattle.grid.specs.Over.{Onward}
 use Rattle.grid.proofs.Over.{onward-none, onward_no, onward_full, onward-put}
-use Rattle.sizes.proofs.Fitting.{Square, both_true}
+use Rattle.sizes.proofs.Fitting.{Square}
+use Rattle.params.specs.declared.answers.Verdicts.{Verdicts}
 use Rattle.params.specs.declared.settings.RadonDetectorParams.{RadonDetectorParams}
 use Rattle.params.specs.Settings.{ray_of}
 use Rattle.saddle.specs.declared.SaddleTest.{SaddleTest}
 use Rattle.saddle.specs.declared.Saddle.{Saddle}
 use Rattle.saddle.specs.declared.Saddle.TheVariants.{Yes, Flat, Curved}
 use Rattle.verdict.specs.declared.Verdict.{Verdict}
-use Rattle.verdict.specs.declared.Verdict.TheVariants.{NotAbove}
+use Rattle.verdict.specs.declared.Verdict.TheVariants.{NotAbove, Beaten}
 use Rattle.verdict.specs.declared.Scan.{Scan}
 use Rattle.saddle.specs.Saddle.{saddle_numbers}
 use Rattle.saddle.specs.Steps.{Around}
@@ -44,10 +48,10 @@ use Rattle.verdict.specs.Verdict.{first_failing, is_saddle, is_kept, rank, same_
 use Rattle.verdict.specs.Judged.{judged_in}
 use Rattle.verdict.specs.Room.{Cross}
 use Rattle.detect.specs.Scan.{scan_of, floor_in, verdict_in, kept_in, ranked, above_in, numbers_in, fitted_at, border_in, rows_above}
-use Rattle.detect.specs.Scan.{Tally, plus, kept_of, Tallied, Asked, Judging, Candidate, Finding, NextInRow, Entered, RowFound}
-use Rattle.detect.proofs.Tally.{early_dropped, wider, tally-plus, kept_more, kept_same, kept_passed, counts_more, counts_passed}
+use Rattle.detect.specs.Scan.{Tally, plus, Tallied, Asked, Judging, Candidate, Finding, NextInRow, Entered, RowFound}
+use Rattle.detect.proofs.Tally.{early_dropped, wider, tally-plus, kept_more, kept_same, counts_more, counts_passed}
 use Rattle.verdict.proofs.Windows.{cross}
-use Rattle.verdict.proofs.Rules.{room, judged_plain, rank_most}
+use Rattle.verdict.proofs.Rules.{room, judged_plain}
 
 -- ---- a candidate lies far enough inside
 
@@ -118,46 +122,36 @@ module _ (s : Scan) (l r : List Float) (n x y : ℕ) (k : Cross s.w x y (length 
 
 -- ---- a candidate that is judged, by what was said of it: v is its verdict, `kept` whether it is kept, r its rank, and t the tally before
 
-module _ (s : Scan) (resp : List Float) (image : List ℕ) (x y : ℕ) (mid : List Float) (t : List ℕ) {v : Verdict} {kept : Bool} {r : ℕ}
-    (is : v ≡ verdict_in s resp image (place x y)) (keeps : kept ≡ is_kept v) (ranks : r ≡ rank v) (long : length t ≡ 6) where
+module _ (s : Scan) (resp : List Float) (image : List ℕ) (x y : ℕ) (mid : List Float) (t : Verdicts) {v : Verdict} {kept : Bool}
+    (is : v ≡ verdict_in s resp image (place x y)) (keeps : kept ≡ is_kept v) where
   said : {b : Bool} → kept ≡ b → kept_in s resp image (place x y) ≡ b
   said e = ap is_kept (sym is) ∙ sym keeps ∙ e
 
-  tallied : plus t r 1 ≡ plus t (rank (verdict_in s resp image (place x y))) 1
-  tallied = ap (λ (k : ℕ). plus t k 1) (ranks ∙ ap rank is)
+  tallied : plus t v 1 ≡ plus t (verdict_in s resp image (place x y)) 1
+  tallied = ap (λ (u : Verdict). plus t u 1) is
 
-  no : kept ≡ false → Entered s resp image x y mid t mid (plus t r 1)
-  no e = record {
-    onward = λ l. rw (tallied, kept_same t (verdict_in s resp image (place x y)) long (said e)) (onward_no _ _ _ _ _ _ _ _ (onward-none _ _ _ _ _ _) (said e));
+  -- dropped
+  pub entered_no : kept ≡ false → Entered s resp image x y mid t mid (plus t v 1)
+  entered_no e = record {
+    onward = λ l. rw (kept_same t v (sym keeps ∙ e)) (onward_no _ _ _ _ _ _ _ _ (onward-none _ _ _ _ _ _) (said e));
     tally = tallied;
   }
 
-  full : kept ≡ true → length mid / stride ≤ kept_of t → Entered s resp image x y mid t mid (plus t r 1)
-  full e b = record {
-    onward = λ l. rw (tallied, kept_more t (verdict_in s resp image (place x y)) long (said e)) (onward_full _ _ _ _ _ _ _ _ (onward-none _ _ _ _ _ _) (said e) b);
+  -- kept, and there is no room
+  pub entered_full : kept ≡ true → length mid / stride ≤ t.kept → Entered s resp image x y mid t mid (plus t v 1)
+  entered_full e b = record {
+    onward = λ l. rw (kept_more t v (sym keeps ∙ e)) (onward_full _ _ _ _ _ _ _ _ (onward-none _ _ _ _ _ _) (said e) b);
     tally = tallied;
   }
-
-  -- not kept, or no room
-  pub entered_not : {new : List Float} {n room : ℕ} → n ≡ kept_of t → room ≡ length mid / stride → (kept && ltb n room) ≡ false → new ≡ mid
-      → Entered s resp image x y mid t new (plus t r 1)
-  entered_not {n = n} {room = room} q w e same = rw same (go kept refl)
-    where
-      go : (k : Bool) → kept ≡ k → Entered s resp image x y mid t mid (plus t r 1)
-      go false u = no u
-      go true u = full u (rw (q, w) at (ltb-false n room (rw u at e)))
 
   -- kept, and stored
-  pub entered_put : {new : List Float} {n room : ℕ} → n ≡ kept_of t → room ≡ length mid / stride → (kept && ltb n room) ≡ true
-      → new ≡ sets mid (stride * n) (numbers_in s resp (place x y)) → Entered s resp image x y mid t new (plus t r 1)
-  entered_put {n = n} {room = room} q w e put =
-      let both = both_true kept (ltb n room) e in
-      let b = rw (q, w) at (ltb-true n room both.1) in
-      record {
-        onward = λ l. rw (tallied, kept_more t (verdict_in s resp image (place x y)) long (said both.0))
-            (onward-put _ _ _ _ _ _ _ _ (numbers-long s.params (value resp s.w)) (onward-none _ _ _ _ _ _) (said both.0) b (rw q at put));
-        tally = tallied;
-      }
+  pub entered_put : {new : List Float} → kept ≡ true → t.kept < length mid / stride → new ≡ sets mid (stride * t.kept) (numbers_in s resp (place x y))
+      → Entered s resp image x y mid t new (plus t v 1)
+  entered_put e b put = record {
+    onward = λ l. rw (kept_more t v (sym keeps ∙ e))
+        (onward-put _ _ _ _ _ _ _ _ (numbers-long s.params (value resp s.w)) (onward-none _ _ _ _ _ _) (said e) b put);
+    tally = tallied;
+  }
 
 -- ---- a run of places that pass at most one test
 
@@ -250,8 +244,8 @@ module _ (s : Scan) (resp : List Float) (y : ℕ) (fits : y * s.w + s.w ≤ leng
   above_in_lem a i l =
       count_range_ext _ _ a i (λ k _ b. ap (lt s.floor) (row-value resp s.w y fits k (omega arith))) ∙ sym (count-columns (above_in s resp) a i y)
 
-  pub next_is : {a e i n : ℕ} {t u : List ℕ} → 1 ≤ a → a ≤ e → e < s.w → Sought s.params.nms_radius s.floor row a e i n
-      → u ≡ plus t 1 n → NextInRow s resp y a e i t u
+  pub next_is : {a e i n : ℕ} {t u : Verdicts} → 1 ≤ a → a ≤ e → e < s.w → Sought s.params.nms_radius s.floor row a e i n
+      → u ≡ plus t Beaten n → NextInRow s resp y a e i t u
   next_is {a} {i = i} {t = t} b h l q e =
       let found = sought_plain b h (omega (arith, row-length resp s.w y fits)) q in
       let n = found.0 in
@@ -259,7 +253,7 @@ module _ (s : Scan) (resp : List Float) (y : ℕ) (fits : y * s.w + s.w ≤ leng
         least = n.least;
         most = n.most;
         none = λ image k u v. passed_out image k (omega arith) (omega arith) (not_worth s.params.nms_radius s.floor row k (n.none k u v));
-        tally = e ∙ ap (plus t 1) (found.1 ∙ above_in_lem a i (omega (arith, n.most)));
+        tally = e ∙ ap (plus t Beaten) (found.1 ∙ above_in_lem a i (omega (arith, n.most)));
       }
 
   -- no more than the row has
@@ -267,6 +261,18 @@ module _ (s : Scan) (resp : List Float) (y : ℕ) (fits : y * s.w + s.w ≤ leng
   next_few {a} {i = i} b h l q =
       let found = sought_plain b h (omega (arith, row-length resp s.w y fits)) q in
       omega (arith, found.1, found.0.most, count_range_most (over s.floor row) a i)
+
+-- none before the end is the end
+pub end_or : (i e : ℕ) → i ≤ e → unwrap_or (then_some (ltb i e) i) e ≡ i
+end_or i e l = go (ltb i e) refl
+  where
+    go : (b : Bool) → ltb i e ≡ b → unwrap_or (then_some b i) e ≡ i
+    go true u = refl
+    go false u = let m : e ≤ i = ltb-false i e u in omega arith
+
+-- a row of a map that is scanned lies in its buffer
+pub row-fits : {s : Scan} {y resp image : ℕ} → Judging s resp image → y < s.h → y * s.w + s.w ≤ resp
+row-fits {s = s} j l = omega (arith, j.asked.response, row_in s.w l)
 
 -- two stretches, one after the other
 onward-on : {A B : Type 0} {k : ℕ} {f : A → List B} {p : A → Bool} {mid out new : List B} {m n r : ℕ} {l₀ l l' : List A}
@@ -293,34 +299,34 @@ module _ (s : Scan) (resp : List Float) (image : List ℕ) (x i y : ℕ)
 -- ---- the scan at x of row y: `mid` and t are the list and the tally with which the row began
 
 -- what has become of them over the places l
-abbrev Onwards : Scan → List Float → List ℕ → ℕ → List Float → List ℕ → List Float → List ℕ → List Place → Type 0
+abbrev Onwards : Scan → List Float → List ℕ → ℕ → List Float → Verdicts → List Float → Verdicts → List Place → Type 0
 Onwards s resp image y mid t out u l =
-    Onward stride (numbers_in s resp) (kept_in s resp image) mid (kept_of t) (rows_above s y) out (kept_of u) l × Tallied s resp image t (rows_above s y) u l
+    Onward stride (numbers_in s resp) (kept_in s resp image) mid t.kept (rows_above s y) out u.kept l × Tallied s resp image t (rows_above s y) u l
 
-pub record Scanned (s : Scan) (resp : List Float) (image : List ℕ) (y : ℕ) (mid : List Float) (t : List ℕ) (out : List Float) (u : List ℕ) (x : ℕ) : Type 0 where
+pub record Scanned (s : Scan) (resp : List Float) (image : List ℕ) (y : ℕ) (mid : List Float) (t : Verdicts) (out : List Float) (u : Verdicts) (x : ℕ) : Type 0 where
   pub across : Across (Onwards s resp image y mid t out u) (border_in s) (s.w - border_in s) (border_in s) (s.h - border_in s) y x
   pub tally : Tally u (8192 * y + x)
 
-module _ {s : Scan} {resp : List Float} {image : List ℕ} {y : ℕ} {t₀ : List ℕ} (f : Finding s y t₀ (length resp) (length image))
+module _ {s : Scan} {resp : List Float} {image : List ℕ} {y : ℕ} {t₀ : Verdicts} (f : Finding s y t₀ (length resp) (length image))
     {b : ℕ} (border : b ≡ border_in s) where
   pub scan_none : {mid : List Float} → Scanned s resp image y mid t₀ mid t₀ b
   scan_none =
       let inner = f.judging.asked.wider in
       rw border (record {
-        across = across_none _ _ _ _ _ y (omega arith) f.above (omega arith) (onward-none _ _ _ _ _ _, record { on = λ k _ _ e. e });
+        across = across_none _ _ _ _ _ y (omega arith) f.above (omega arith) (onward-none _ _ _ _ _ _, record { on = λ k _ e. e });
         tally = wider t₀ f.tally (omega arith);
       })
 
-  module _ {mid : List Float} {t : List ℕ} {out : List Float} {u : List ℕ} {x : ℕ} (c : Scanned s resp image y mid t out u x) where
+  module _ {mid : List Float} {t : Verdicts} {out : List Float} {u : Verdicts} {x : ℕ} (c : Scanned s resp image y mid t out u x) where
     -- the search goes on to i
-    pub scan_on : {i : ℕ} {v : List ℕ} → NextInRow s resp y x (s.w - b) i u v → Scanned s resp image y mid t out v i
+    pub scan_on : {i : ℕ} {v : Verdicts} → NextInRow s resp y x (s.w - b) i u v → Scanned s resp image y mid t out v i
     scan_on {i} {v} n =
         let o : x + (i - x) ≡ i = omega arith in
         let B = border_in s in
         let m = count (above_in s resp) (line x i y) in
         let few : m ≤ i - x = omega (arith, count_most (above_in s resp) (line x i y), length-line x i y) in
         let early : (k : ℕ) → x ≤ k → k < i → rank (verdict_in s resp image (place k y)) ≤ 1 = n.none image in
-        let listed : Across (Onward stride (numbers_in s resp) (kept_in s resp image) mid (kept_of t) (rows_above s y) out (kept_of u)) B _ B _ y x = record {
+        let listed : Across (Onward stride (numbers_in s resp) (kept_in s resp image) mid t.kept (rows_above s y) out u.kept) B _ B _ y x = record {
           least = c.across.least;
           most = c.across.most;
           low = c.across.low;
@@ -335,16 +341,16 @@ module _ {s : Scan} {resp : List Float} {image : List ℕ} {y : ℕ} {t₀ : Lis
             most = there.most;
             low = there.low;
             high = there.high;
-            holds = rw (n.tally, kept_passed u m c.tally.long) (
-              there.holds,
+            holds = rw n.tally (
+              rw (add-zero u.kept) there.holds,
               record {
-                on = λ j g l h. rw (before_on B (s.w - B) B x i y c.across.least n.least)
-                    (counts_passed (verdict_in s resp image) j u _ (line x i y) c.tally.long g (passed_one_test s resp image x i y early)
-                    (passed_no_more s resp image x i y early j) (c.across.holds.1.on j g l h));
+                on = λ j g h. rw (before_on B (s.w - B) B x i y c.across.least n.least)
+                    (counts_passed (verdict_in s resp image) j u _ (line x i y) g (passed_one_test s resp image x i y early)
+                    (passed_no_more s resp image x i y early (rank j)) (c.across.holds.1.on j g h));
               },
             );
           };
-          tally = rw n.tally (wider _ (tally-plus u 1 m (omega arith) c.tally) (omega arith));
+          tally = rw n.tally (wider _ (tally-plus u Beaten m c.tally) (omega arith));
         }
 
     -- the tally is small enough for the machine
@@ -360,13 +366,13 @@ module _ {s : Scan} {resp : List Float} {image : List ℕ} {y : ℕ} {t₀ : Lis
     )
 
     -- it is judged
-    pub scan_turn : {new : List Float} {v : List ℕ} → x < s.w - b → Entered s resp image x y out u new v → Scanned s resp image y mid t new v (x + 1)
+    pub scan_turn : {new : List Float} {v : Verdicts} → x < s.w - b → Entered s resp image x y out u new v → Scanned s resp image y mid t new v (x + 1)
     scan_turn {v = v} l e = record {
       across = across_more _ _ _ _ _ _ c.across (omega arith) (λ p. (
         onward-on p.0 (e.onward _),
-        record { on = λ k g m h. rw e.tally (counts_more (verdict_in s resp image) k u _ (place x y) c.tally.long (p.1.on k g m h)) },
+        record { on = λ k g h. rw e.tally (counts_more (verdict_in s resp image) k u _ (place x y) (p.1.on k g h)) },
       ));
-      tally = rw e.tally (wider _ (tally-plus u _ 1 (rank_most (verdict_in s resp image (place x y))) c.tally) (omega arith));
+      tally = rw e.tally (wider _ (tally-plus u (verdict_in s resp image (place x y)) 1 c.tally) (omega arith));
     }
 
     pub scan_all : s.w - b ≤ x → RowFound s resp image y mid t out u

@@ -1,20 +1,20 @@
 -- The tally's laws: what a candidate that is judged, or one that is passed over, does to it; and the six counts by subtraction. Assumes nothing.
 use mathlib.Core.Path.{◌≡◌, refl, sym, ap, ◌∙◌}
-use mathlib.Core.Bool.{Bool, true, false}
-use Prim.Native.Nat.{ℕ, ◌+◌, ◌≤◌, ◌<◌}
+use mathlib.Core.Bool.{Bool, true, false, cond}
+use Prim.Native.Nat.{ℕ, ◌+◌, ◌≤◌}
+use native.Mathlib.Nat.{add-zero}
 use native.Mathlib.Omega.{arith}
 use borrow.Author.Tests.{eqb-true, eqb-false}
 use mathlib.Core.List.{List, [], ◌∷◌, ◌++◌}
-use lib.ListN.{length, get_or, length-set, length-append}
-use lib.Seq.{get_or-set_same, get_or-set_other}
+use lib.ListN.{length, length-append}
 use lib.Dec.{eqb}
 use Rattle.grid.specs.Each.{each, once, keep, count}
 use Rattle.grid.proofs.Each.{count-append, count_yes, count_no}
+use Rattle.params.specs.declared.answers.Verdicts.{Verdicts}
 use Rattle.verdict.specs.declared.Verdict.{Verdict}
 use Rattle.verdict.specs.declared.Verdict.TheVariants.{NotAbove, Beaten, TooFew, TooFlat, WrongCurvature, Kept}
 use Rattle.verdict.specs.Verdict.{is_kept, rank, same_verdict}
-use Rattle.verdict.proofs.Rules.{rank_most}
-use Rattle.detect.specs.Scan.{Tally, plus, kept_of}
+use Rattle.detect.specs.Scan.{Tally, count_of, more, plus}
 
 -- ---- verdicts by rank
 
@@ -35,70 +35,97 @@ kept_last TooFlat = refl
 kept_last WrongCurvature = refl
 kept_last Kept = refl
 
--- ---- n more of rank r
+-- ---- n more that have the verdict v
 
-module _ (t : List ℕ) where
+module _ (t : Verdicts) where
   pub wider : {m n : ℕ} → Tally t m → m ≤ n → Tally t n
-  wider h l = record { long = h.long; few = λ k. omega (arith, h.few k) }
+  wider h l = record {
+    not_above = omega arith;
+    beaten = omega arith;
+    too_few = omega arith;
+    too_flat = omega arith;
+    wrong_curvature = omega arith;
+    kept = omega arith;
+  }
 
-  module _ (r k n : ℕ) (long : length t ≡ 6) (b : r < 6) where
-    -- entry k has them where it is that of r
-    plus_yes : eqb r k ≡ true → get_or (plus t r n) k 0 ≡ get_or t k 0 + n
-    plus_yes e =
-        let s : r ≡ k = eqb-true r k e in
-        rw (← s) (get_or-set_same t r _ 0 (omega arith))
+  module _ (v : Verdict) (n : ℕ) where
+    plus_at : (u : Verdict) → count_of u (plus t v n) ≡ count_of u t + more v u n
+    plus_at NotAbove = refl
+    plus_at Beaten = refl
+    plus_at TooFew = refl
+    plus_at TooFlat = refl
+    plus_at WrongCurvature = refl
+    plus_at Kept = refl
 
-    plus_no : eqb r k ≡ false → get_or (plus t r n) k 0 ≡ get_or t k 0
-    plus_no e = get_or-set_other t r k _ 0 (λ s. eqb-false r k e (sym s))
+    -- the count of u has them where u is v
+    plus_yes : (u : Verdict) → same_verdict v u ≡ true → count_of u (plus t v n) ≡ count_of u t + n
+    plus_yes u e = plus_at u ∙ ap (λ (b : Bool). count_of u t + cond b n 0) e
 
-    plus-few : get_or (plus t r n) k 0 ≤ get_or t k 0 + n
-    plus-few = go (eqb r k) refl
+    plus_no : (u : Verdict) → same_verdict v u ≡ false → count_of u (plus t v n) ≡ count_of u t
+    plus_no u e = plus_at u ∙ ap (λ (b : Bool). count_of u t + cond b n 0) e ∙ add-zero _
+
+    pub tally-plus : {m : ℕ} → Tally t m → Tally (plus t v n) (m + n)
+    tally-plus h = record {
+      not_above = omega (arith, h.not_above, few NotAbove);
+      beaten = omega (arith, h.beaten, few Beaten);
+      too_few = omega (arith, h.too_few, few TooFew);
+      too_flat = omega (arith, h.too_flat, few TooFlat);
+      wrong_curvature = omega (arith, h.wrong_curvature, few WrongCurvature);
+      kept = omega (arith, h.kept, few Kept);
+    }
       where
-        go : (q : Bool) → eqb r k ≡ q → get_or (plus t r n) k 0 ≤ get_or t k 0 + n
-        go true e = omega (arith, plus_yes e)
-        go false e = omega (arith, plus_no e)
+        at_most : (b : Bool) → cond b n 0 ≤ n
+        at_most true = omega arith
+        at_most false = omega arith
 
-  pub tally-plus : (r n : ℕ) {m : ℕ} → r < 6 → Tally t m → Tally (plus t r n) (m + n)
-  tally-plus r n b h =
-      record { long = length-set t r _ ∙ h.long; few = λ k. omega (arith, h.few k, plus-few r k n h.long b) }
+        few : (u : Verdict) → more v u n ≤ n
+        few u = at_most (same_verdict v u)
+
+  -- as the code adds those that are beaten
+  pub plus_beaten : (n : ℕ) → ◌≡◌ {A = Verdicts} (record {
+    not_above = t.not_above;
+    beaten = t.beaten + n;
+    too_few = t.too_few;
+    too_flat = t.too_flat;
+    wrong_curvature = t.wrong_curvature;
+    kept = t.kept;
+  }) (plus t Beaten n)
+  plus_beaten n = simp add-zero
 
   -- the kept ones
-  module _ (v : Verdict) (long : length t ≡ 6) where
-    pub kept_more : is_kept v ≡ true → kept_of (plus t (rank v) 1) ≡ kept_of t + 1
-    kept_more e = plus_yes (rank v) 5 1 long (rank_most v) (sym (kept_last v) ∙ e)
+  pub kept_more : (v : Verdict) → is_kept v ≡ true → (plus t v 1).kept ≡ t.kept + 1
+  kept_more v e = plus_yes v 1 Kept (sym (kept_last v) ∙ e)
 
-    pub kept_same : is_kept v ≡ false → kept_of (plus t (rank v) 1) ≡ kept_of t
-    kept_same e = plus_no (rank v) 5 1 long (rank_most v) (sym (kept_last v) ∙ e)
-
-  pub kept_passed : (n : ℕ) → length t ≡ 6 → kept_of (plus t 1 n) ≡ kept_of t
-  kept_passed n long = plus_no 1 5 n long (omega arith) refl
+  pub kept_same : (v : Verdict) → is_kept v ≡ false → (plus t v 1).kept ≡ t.kept
+  kept_same v e = plus_no v 1 Kept (sym (kept_last v) ∙ e)
 
 -- ---- what it has counted: v is the verdict on each of the places l
 
-module _ {A : Type 0} (v : A → Verdict) (k : ℕ) (t : List ℕ) (l : List A) where
-  -- entry k counts those of rank k
-  abbrev Counts : List ℕ → List A → Type 0
-  Counts t l = get_or t k 0 ≡ count (λ p. eqb (rank (v p)) k) l
+module _ {A : Type 0} (v : A → Verdict) (u : Verdict) (t : Verdicts) (l : List A) where
+  -- the count of u is that of the places of its rank
+  abbrev Counts : Verdicts → List A → Type 0
+  Counts t l = count_of u t ≡ count (λ p. eqb (rank (v p)) (rank u)) l
 
-  pub counts_more : (a : A) → length t ≡ 6 → Counts t l → Counts (plus t (rank (v a)) 1) (l ++ (a ∷ []))
-  counts_more a long h = go (eqb (rank (v a)) k) refl
+  pub counts_more : (a : A) → Counts t l → Counts (plus t (v a) 1) (l ++ (a ∷ []))
+  counts_more a h = go (same_verdict (v a) u) refl
     where
-      go : (q : Bool) → eqb (rank (v a)) k ≡ q → Counts (plus t (rank (v a)) 1) (l ++ (a ∷ []))
-      go true e = plus_yes t (rank (v a)) k 1 long (rank_most (v a)) e ∙ count_yes _ l a h e
-      go false e = plus_no t (rank (v a)) k 1 long (rank_most (v a)) e ∙ count_no _ l a h e
+      go : (q : Bool) → same_verdict (v a) u ≡ q → Counts (plus t (v a) 1) (l ++ (a ∷ []))
+      go true e = plus_yes t (v a) 1 u e ∙ count_yes _ l a h e
+      go false e = plus_no t (v a) 1 u e ∙ count_no _ l a h e
 
-  -- n of the places m are of rank 1, and none of a higher
-  pub counts_passed : (m : List A) {n : ℕ} → length t ≡ 6 → 1 ≤ k → n ≡ count (λ p. eqb (rank (v p)) 1) m
-      → (2 ≤ k → count (λ p. eqb (rank (v p)) k) m ≡ 0) → Counts t l → Counts (plus t 1 n) (l ++ m)
-  counts_passed m {n} long b one none h = go (eqb 1 k) refl
+  -- n of the places m are beaten, and none has passed more
+  pub counts_passed : (m : List A) {n : ℕ} → 1 ≤ rank u → n ≡ count (λ p. eqb (rank (v p)) 1) m
+      → (2 ≤ rank u → count (λ p. eqb (rank (v p)) (rank u)) m ≡ 0) → Counts t l → Counts (plus t Beaten n) (l ++ m)
+  counts_passed m {n} b one none h = go (eqb 1 (rank u)) refl
     where
-      go : (q : Bool) → eqb 1 k ≡ q → Counts (plus t 1 n) (l ++ m)
+      go : (q : Bool) → eqb 1 (rank u) ≡ q → Counts (plus t Beaten n) (l ++ m)
       go true e =
-          let s : 1 ≡ k = eqb-true 1 k e in
-          plus_yes t 1 k n long (omega arith) e ∙ (λ i. h i + (one ∙ ap (λ (j : ℕ). count (λ p. eqb (rank (v p)) j) m) s) i) ∙ sym (count-append (λ p. eqb (rank (v p)) k) l m)
+          let s : 1 ≡ rank u = eqb-true 1 (rank u) e in
+          plus_yes t Beaten n u e ∙ (λ i. h i + (one ∙ ap (λ (j : ℕ). count (λ p. eqb (rank (v p)) j) m) s) i)
+          ∙ sym (count-append (λ p. eqb (rank (v p)) (rank u)) l m)
       go false e =
-          plus_no t 1 k n long (omega arith) e ∙ h
-          ∙ omega (arith, none (omega (arith, eqb-false 1 k e)), count-append (λ p. eqb (rank (v p)) k) l m)
+          plus_no t Beaten n u e ∙ h
+          ∙ omega (arith, none (omega (arith, eqb-false 1 (rank u) e)), count-append (λ p. eqb (rank (v p)) (rank u)) l m)
 
 -- ---- the six counts together
 

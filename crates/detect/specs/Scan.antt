@@ -1,5 +1,5 @@
 -- What the scan's private functions ask and hand each other.
-use Rattle.std.specs.Prelude.{◌≡◌, Bool, ℕ, ◌+◌, ◌-◌, ◌*◌, ◌≤◌, ◌<◌, List, [], ◌∷◌, ◌++◌, length, get_or, set, eqb, Float}
+use Rattle.std.specs.Prelude.{◌≡◌, Bool, cond, ℕ, ◌+◌, ◌-◌, ◌*◌, ◌≤◌, ◌<◌, List, [], ◌∷◌, ◌++◌, length, eqb, Float}
 use Rattle.std.specs.Float.Ieee.{lt}
 use Rattle.grid.specs.Each.{count}
 use Rattle.grid.specs.Rect.{Place, place, rect, line}
@@ -9,12 +9,13 @@ use Rattle.params.specs.declared.answers.Verdicts.{Verdicts}
 use Rattle.params.specs.declared.settings.RadonDetectorParams.{RadonDetectorParams}
 use Rattle.params.specs.Settings.{ray_of, border_of}
 use Rattle.verdict.specs.declared.Verdict.{Verdict}
+use Rattle.verdict.specs.declared.Verdict.TheVariants.{NotAbove, Beaten, TooFew, TooFlat, WrongCurvature, Kept}
 use Rattle.verdict.specs.declared.Scan.{Scan}
 use Rattle.saddle.specs.Saddle.{saddle_of}
 use Rattle.peak_fit.specs.PeakFit.{fit_of}
 use Rattle.crests.specs.Maximum.{entry}
 use Rattle.verdict.specs.Window.{at}
-use Rattle.verdict.specs.Verdict.{is_kept, rank, verdict}
+use Rattle.verdict.specs.Verdict.{is_kept, rank, same_verdict, verdict}
 use Rattle.detect.specs.Corners.{floor_of, corners, verdicts_of, stride, input_at, numbers}
 
 -- ---- what a scan goes by, and what that says of a place over the map and the image in two buffers
@@ -66,38 +67,57 @@ border_in c = border_of c.params
 abbrev pub rows_above : Scan → ℕ → List Place
 rows_above c y = rect (border_in c) (c.w - border_in c) (border_in c) y
 
--- ---- the tally: entry k is how many candidates have passed just k tests, for k from 1 on; nothing is said of entry 0, which is not read
+-- ---- the tally: how many candidates have each verdict, but for those that are not above the floor: nothing is said of their count, which is not read
 
--- six entries, none above a bound
-pub record Tally (t : List ℕ) (most : ℕ) : Type 0 where
-  pub long : length t ≡ 6
-  pub few : (k : ℕ) → get_or t k 0 ≤ most
+-- no count above a bound
+pub record Tally (t : Verdicts) (most : ℕ) : Type 0 where
+  pub not_above : t.not_above ≤ most
+  pub beaten : t.beaten ≤ most
+  pub too_few : t.too_few ≤ most
+  pub too_flat : t.too_flat ≤ most
+  pub wrong_curvature : t.wrong_curvature ≤ most
+  pub kept : t.kept ≤ most
 
--- n more that have passed k
-abbrev pub plus : List ℕ → ℕ → ℕ → List ℕ
-plus t k n = set t k (get_or t k 0 + n)
+-- how many have the verdict
+abbrev pub count_of : Verdict → Verdicts → ℕ
+count_of NotAbove t = t.not_above
+count_of Beaten t = t.beaten
+count_of TooFew t = t.too_few
+count_of TooFlat t = t.too_flat
+count_of WrongCurvature t = t.wrong_curvature
+count_of Kept t = t.kept
 
--- the kept ones: that many corners are in the list
-abbrev pub kept_of : List ℕ → ℕ
-kept_of t = get_or t 5 0
+-- n more that have the verdict v: what they add to the count of u
+abbrev pub more : Verdict → Verdict → ℕ → ℕ
+more v u n = cond (same_verdict v u) n 0
 
--- from where t had counted the places l₀, u has counted the places l
-pub record Tallied (c : Scan) (resp : List Float) (image : List ℕ) (t : List ℕ) (l₀ : List Place) (u : List ℕ) (l : List Place) : Type 0 where
-  pub on : (k : ℕ) → 1 ≤ k → k < 6 → get_or t k 0 ≡ count (ranked c resp image k) l₀ → get_or u k 0 ≡ count (ranked c resp image k) l
+abbrev pub plus : Verdicts → Verdict → ℕ → Verdicts
+plus t v n = record {
+  not_above = t.not_above + more v NotAbove n;
+  beaten = t.beaten + more v Beaten n;
+  too_few = t.too_few + more v TooFew n;
+  too_flat = t.too_flat + more v TooFlat n;
+  wrong_curvature = t.wrong_curvature + more v WrongCurvature n;
+  kept = t.kept + more v Kept n;
+}
+
+-- from where t had counted the places l₀, u has counted the places l, by each verdict that passes a test
+pub record Tallied (c : Scan) (resp : List Float) (image : List ℕ) (t : Verdicts) (l₀ : List Place) (u : Verdicts) (l : List Place) : Type 0 where
+  pub on : (v : Verdict) → 1 ≤ rank v → count_of v t ≡ count (ranked c resp image (rank v)) l₀ → count_of v u ≡ count (ranked c resp image (rank v)) l
 
 -- all that are above the floor
-abbrev pub above_of : List ℕ → ℕ
-above_of t = get_or t 1 0 + get_or t 2 0 + get_or t 3 0 + get_or t 4 0 + get_or t 5 0
+abbrev pub above_of : Verdicts → ℕ
+above_of t = t.beaten + t.too_few + t.too_flat + t.wrong_curvature + t.kept
 
 -- the six counts of `all` candidates
-abbrev pub by_subtraction : ℕ → List ℕ → Verdicts
+abbrev pub by_subtraction : ℕ → Verdicts → Verdicts
 by_subtraction all t = record {
   not_above = all - above_of t;
-  beaten = get_or t 1 0;
-  too_few = get_or t 2 0;
-  too_flat = get_or t 3 0;
-  wrong_curvature = get_or t 4 0;
-  kept = kept_of t;
+  beaten = t.beaten;
+  too_few = t.too_few;
+  too_flat = t.too_flat;
+  wrong_curvature = t.wrong_curvature;
+  kept = t.kept;
 }
 
 -- ---- what is asked
@@ -128,7 +148,7 @@ pub record Candidate (c : Scan) (x y resp image : ℕ) : Type 0 where
   pub row : y * c.w + c.w ≤ resp
 
 -- y is a row of candidates, with those above it tallied
-pub record Finding (c : Scan) (y : ℕ) (t : List ℕ) (resp image : ℕ) : Type 0 where
+pub record Finding (c : Scan) (y : ℕ) (t : Verdicts) (resp image : ℕ) : Type 0 where
   pub judging : Judging c resp image
   pub above : border_in c ≤ y
   pub below : y + border_in c < c.h
@@ -139,20 +159,20 @@ pub record Finding (c : Scan) (y : ℕ) (t : List ℕ) (resp image : ℕ) : Type
 
 -- i is the next place of row y from a on, and at most e, that may pass the first two tests, whatever the image has; those before it that are above
 -- the floor are tallied as beaten
-pub record NextInRow (c : Scan) (resp : List Float) (y a e i : ℕ) (t u : List ℕ) : Type 0 where
+pub record NextInRow (c : Scan) (resp : List Float) (y a e i : ℕ) (t u : Verdicts) : Type 0 where
   pub least : a ≤ i
   pub most : i ≤ e
   pub none : (image : List ℕ) (x : ℕ) → a ≤ x → x < i → rank (verdict_in c resp image (place x y)) ≤ 1
-  pub tally : u ≡ plus t 1 (count (above_in c resp) (line a i y))
+  pub tally : u ≡ plus t Beaten (count (above_in c resp) (line a i y))
 
 -- with (x, y) judged and tallied, the list `mid` has become `out`, whatever the places l before were
-pub record Entered (c : Scan) (resp : List Float) (image : List ℕ) (x y : ℕ) (mid : List Float) (t : List ℕ) (out : List Float) (u : List ℕ) : Type 0 where
-  pub onward : (l : List Place) → Onward stride (numbers_in c resp) (kept_in c resp image) mid (kept_of t) l out (kept_of u) (l ++ (place x y ∷ []))
-  pub tally : u ≡ plus t (rank (verdict_in c resp image (place x y))) 1
+pub record Entered (c : Scan) (resp : List Float) (image : List ℕ) (x y : ℕ) (mid : List Float) (t : Verdicts) (out : List Float) (u : Verdicts) : Type 0 where
+  pub onward : (l : List Place) → Onward stride (numbers_in c resp) (kept_in c resp image) mid t.kept l out u.kept (l ++ (place x y ∷ []))
+  pub tally : u ≡ plus t (verdict_in c resp image (place x y)) 1
 
 -- with row y scanned, those of the rows above y have become those of the rows above y + 1
-pub record RowFound (c : Scan) (resp : List Float) (image : List ℕ) (y : ℕ) (mid : List Float) (t : List ℕ) (out : List Float) (u : List ℕ) : Type 0 where
-  pub onward : Onward stride (numbers_in c resp) (kept_in c resp image) mid (kept_of t) (rows_above c y) out (kept_of u) (rows_above c (y + 1))
+pub record RowFound (c : Scan) (resp : List Float) (image : List ℕ) (y : ℕ) (mid : List Float) (t : Verdicts) (out : List Float) (u : Verdicts) : Type 0 where
+  pub onward : Onward stride (numbers_in c resp) (kept_in c resp image) mid t.kept (rows_above c y) out u.kept (rows_above c (y + 1))
   pub tallied : Tallied c resp image t (rows_above c y) u (rows_above c (y + 1))
   pub tally : Tally u (8192 * (y + 1))
 

@@ -7,7 +7,7 @@ ghost use Rattle.std.specs.Prelude.{◌≡◌, length};
 ghost use Rattle.detect.specs.Detected.{working_refusal, peaks_refusal, full_or, peaks_outcome, list_of};
 
 use params::{Answer, Outcome, RadonDetectorParams};
-use peaks::{find_peaks, scan_of};
+use peaks::{ScannedMap, scan_of};
 use sizes::lesser;
 
 // Twice the input's longest side.
@@ -73,7 +73,12 @@ pub fn detect_peaks_from_radon(
         return Outcome::refusal(refusal);
     }
     let scan = scan_of(response, w, h, params);
-    let found = find_peaks(response, image, scan, list);
+    let map = ScannedMap {
+        resp: response,
+        image,
+        scan,
+    };
+    let found = map.find_peaks(list);
     let count = found.kept;
     let stored = lesser(count, list.len() / 3);
     Outcome {

@@ -8,20 +8,19 @@
 //
 // The tally has every candidate that is above the floor: those that are passed over and above it are beaten, for a neighbour in the row is greater,
 // and the search counts them as it goes. Who is left is not above: `by_subtraction`.
-ghost use Rattle.std.specs.Prelude.{◌≡◌, ◌+◌, ◌*◌, ◌/◌, ◌<◌, ◌≤◌, [], ◌∷◌, length};
+ghost use Rattle.std.specs.Prelude.{◌≡◌, ◌+◌, ◌*◌, ◌/◌, ◌<◌, ◌≤◌, [], ◌∷◌, length, unwrap_or, IfSome};
 ghost use Rattle.std.proofs.lemmas.List.Edits.{sets};
 ghost use Rattle.grid.specs.Rect.{place};
 ghost use Rattle.detect.specs.Corners.{stride};
 ghost use Rattle.verdict.specs.Room.{Cross};
-ghost use Rattle.detect.specs.Scan.{scan_of, floor_in, fitted_at, numbers_in, Tally, above_of, by_subtraction};
+ghost use Rattle.detect.specs.Scan.{scan_of, floor_in, fitted_at, numbers_in, Tally, plus, above_of, by_subtraction};
 ghost use Rattle.detect.specs.Scan.{Judging, Candidate, Finding, NextInRow, Entered, RowFound, Found};
 
 use crests::{max_response, next_candidate};
 use params::{Input, RadonDetectorParams, Verdicts, Working};
 use peak_fit::fit_peak_frac;
 use saddle::new;
-use sizes::lesser;
-use verdict::{Scan, is_kept, judge_at, rank};
+use verdict::{Scan, Verdict, judge_at};
 
 // Along one axis, a peak of value v at entry c and pixel `at`, in the input image: its offset is fitted to the entries `step` before and after.
 fn fitted(
@@ -51,113 +50,30 @@ fn store(list: &mut [f32], n: usize, x: Input, y: Input, strength: f32)
     list[i + 2] = strength;
 }
 
-// The corner at (x, y) as the n-th of the list.
-fn put_corner(list: &mut [f32], n: usize, resp: &[f32], scan: Scan, x: usize, y: usize)
-    requires { Cross scan.w x y (length resp.now) × (n < length list.old / stride) }
-    ensures { list.new ≡ sets list.old (stride * n) (numbers_in scan resp.now (place x y)) }
+// One more candidate with the verdict v.
+fn count(tally: &mut Verdicts, v: Verdict)
+    requires { Tally tally.old (8192 * 8192) }
+    ensures { tally.new ≡ plus tally.old v 1 }
 {
-    let w = scan.w;
-    let c = y * w + x;
-    let v = resp[c];
-    let params = scan.params;
-    let px = fitted(resp, c, 1, v, params, x);
-    let py = fitted(resp, c, w, v, params, y);
-    store(list, n, px, py, v);
-}
-
-// The candidate at (x, y): judged, stored where it is kept and there is room, and tallied.
-fn judge_and_list(
-    resp: &[f32],
-    image: &[u8],
-    scan: Scan,
-    x: usize,
-    y: usize,
-    tally: &mut [usize],
-    list: &mut [f32],
-)
-    requires { Candidate scan x y (length resp.now) (length image.now) × Tally tally.old (8192 * 8192) }
-    ensures { Entered scan resp.now image.now x y list.old tally.old list.new tally.new }
-{
-    let v = judge_at(resp, image, scan, x, y);
-    let n = tally[5];
-    let room = list.len() / 3;
-    if is_kept(v) & (n < room) {
-        put_corner(list, n, resp, scan, x, y);
-    }
-    let r = rank(v);
-    tally[r] += 1;
-}
-
-// The next place of row y from `from` on, and before `to`, that may be kept; `to` where there is none. What is passed over and above the floor is
-// beaten: it is tallied.
-fn next_in_row(
-    resp: &[f32],
-    scan: Scan,
-    y: usize,
-    from: usize,
-    to: usize,
-    tally: &mut [usize],
-) -> usize
-    requires within_row { (1 ≤ from) × (from ≤ to) × (to < scan.w) × (scan.w ≤ 8192) × (y * scan.w + scan.w ≤ length resp.now) }
-    requires tally { Tally tally.old (8192 * 8192) }
-    ensures { NextInRow scan resp.now y from to result tally.old tally.new }
-{
-    let w = scan.w;
-    let a = y * w;
-    let e = a + w;
-    let params = scan.params;
-    let next = next_candidate(
-        &resp[a..e],
-        from,
-        to,
-        scan.floor,
-        params.nms_radius as usize,
-    );
-    tally[1] += next.above;
-    next.end
-}
-
-// The candidates of row y, after those above it.
-fn find_in_row(
-    resp: &[f32],
-    image: &[u8],
-    scan: Scan,
-    y: usize,
-    tally: &mut [usize],
-    list: &mut [f32],
-)
-    requires { Finding scan y tally.old (length resp.now) (length image.now) }
-    ensures { RowFound scan resp.now image.now y list.old tally.old list.new tally.new }
-{
-    let b = scan.params.border();
-    let ex = scan.w - b;
-    let mut x = b;
-    while x < ex {
-        x = next_in_row(resp, scan, y, x, ex, tally);
-        if x < ex {
-            judge_and_list(resp, image, scan, x, y, tally, list);
-            x += 1;
-        }
+    match v {
+        Verdict::NotAbove => tally.not_above += 1,
+        Verdict::Beaten => tally.beaten += 1,
+        Verdict::TooFew => tally.too_few += 1,
+        Verdict::TooFlat => tally.too_flat += 1,
+        Verdict::WrongCurvature => tally.wrong_curvature += 1,
+        Verdict::Kept => tally.kept += 1,
     }
 }
 
-// The six counts of `all` candidates: who is in no other entry of the tally is not above the floor.
-fn by_subtraction(all: usize, tally: &[usize]) -> Verdicts
-    requires { (all ≤ 8192 * 8192) × (above_of tally.now ≤ all) × (length tally.now ≡ 6) }
-    ensures { result ≡ by_subtraction all tally.now }
+// The six counts of `all` candidates: who is in no other count of the tally is not above the floor.
+fn by_subtraction(all: usize, tally: Verdicts) -> Verdicts
+    requires { (all ≤ 8192 * 8192) × (above_of tally ≤ all) }
+    ensures { result ≡ by_subtraction all tally }
 {
-    let beaten = tally[1];
-    let too_few = tally[2];
-    let too_flat = tally[3];
-    let wrong_curvature = tally[4];
-    let kept = tally[5];
+    let above = tally.beaten + tally.too_few + tally.too_flat + tally.wrong_curvature + tally.kept;
     Verdicts {
-        not_above: all - (beaten + too_few + too_flat + wrong_curvature + kept),
-        beaten,
-        too_few,
-        too_flat,
-        wrong_curvature,
-        kept,
+        not_above: all - above,
+        ..tally
     }
 }
 
@@ -179,19 +95,93 @@ pub fn scan_of(resp: &[f32], w: usize, h: usize, params: RadonDetectorParams) ->
     }
 }
 
-// All corners, and how many candidates have each verdict.
-pub fn find_peaks(resp: &[f32], image: &[u8], scan: Scan, list: &mut [f32]) -> Verdicts
-    requires judging { Judging scan (length resp.now) (length image.now) }
-    requires floor_value { scan.floor ≡ floor_in scan resp.now }
-    ensures { Found scan resp.now image.now list.old result list.new }
-{
-    let h = scan.h;
-    let b = scan.params.border();
-    let ey = h - b;
-    let mut tally = [0usize; 6];
-    for y in b..ey {
-        find_in_row(resp, image, scan, y, &mut tally, list);
+// A map over its working image, and what the scan of it goes by: sizes, settings and buffers fit, and there are candidates inside the border.
+#[derive(Clone, Copy)]
+pub struct ScannedMap<'a> {
+    pub resp: &'a [f32],
+    pub image: &'a [u8],
+    pub scan: Scan,
+    ghost judging: { Judging scan (length resp.now) (length image.now) },
+}
+
+impl<'a> ScannedMap<'a> {
+    // The corner at (x, y) as the n-th of the list.
+    fn put_corner(&self, list: &mut [f32], n: usize, x: usize, y: usize)
+        requires { Cross self.now.scan.w x y (length self.now.resp.now) × (n < length list.old / stride) }
+        ensures { list.new ≡ sets list.old (stride * n) (numbers_in self.now.scan self.now.resp.now (place x y)) }
+    {
+        let resp = self.resp;
+        let w = self.scan.w;
+        let c = y * w + x;
+        let v = resp[c];
+        let params = self.scan.params;
+        let px = fitted(resp, c, 1, v, params, x);
+        let py = fitted(resp, c, w, v, params, y);
+        store(list, n, px, py, v);
     }
-    let all = (scan.w - 2 * b) * (ey - b);
-    by_subtraction(all, &tally)
+
+    // The candidate at (x, y): judged, stored where it is kept and there is room, and tallied.
+    fn judge_and_list(&self, x: usize, y: usize, tally: &mut Verdicts, list: &mut [f32])
+        requires { Candidate self.now.scan x y (length self.now.resp.now) (length self.now.image.now) × Tally tally.old (8192 * 8192) }
+        ensures { Entered self.now.scan self.now.resp.now self.now.image.now x y list.old tally.old list.new tally.new }
+    {
+        let v = judge_at(self.resp, self.image, self.scan, x, y);
+        let n = tally.kept;
+        let room = list.len() / 3;
+        if v.is_kept() && n < room {
+            self.put_corner(list, n, x, y);
+        }
+        count(tally, v);
+    }
+
+    // The next place of row y from `from` on, and before `to`, that may be kept. What is passed over and above the floor is beaten: it is
+    // tallied.
+    fn next_in_row(&self, y: usize, from: usize, to: usize, tally: &mut Verdicts) -> Option<usize>
+        requires within_row { (1 ≤ from) × (from ≤ to) × (to < self.now.scan.w) × (y < self.now.scan.h) }
+        requires tally { Tally tally.old (8192 * 8192) }
+        ensures passed { NextInRow self.now.scan self.now.resp.now y from to (unwrap_or result to) tally.old tally.new }
+        ensures within { IfSome result (λ x. x < to) }
+    {
+        let scan = self.scan;
+        let a = y * scan.w;
+        let next = next_candidate(
+            &self.resp[a..a + scan.w],
+            from,
+            to,
+            scan.floor,
+            scan.params.nms_radius as usize,
+        );
+        tally.beaten += next.above;
+        (next.end < to).then_some(next.end)
+    }
+
+    // The candidates of row y, after those above it.
+    fn find_in_row(&self, y: usize, tally: &mut Verdicts, list: &mut [f32])
+        requires { Finding self.now.scan y tally.old (length self.now.resp.now) (length self.now.image.now) }
+        ensures { RowFound self.now.scan self.now.resp.now self.now.image.now y list.old tally.old list.new tally.new }
+    {
+        let b = self.scan.params.border();
+        let ex = self.scan.w - b;
+        let mut from = b;
+        while let Some(x) = self.next_in_row(y, from, ex, tally) {
+            self.judge_and_list(x, y, tally, list);
+            from = x + 1;
+        }
+    }
+
+    // All corners, and how many candidates have each verdict.
+    pub fn find_peaks(&self, list: &mut [f32]) -> Verdicts
+        requires { self.now.scan.floor ≡ floor_in self.now.scan self.now.resp.now }
+        ensures { Found self.now.scan self.now.resp.now self.now.image.now list.old result list.new }
+    {
+        let h = self.scan.h;
+        let b = self.scan.params.border();
+        let ey = h - b;
+        let mut tally = Verdicts::none();
+        for y in b..ey {
+            self.find_in_row(y, &mut tally, list);
+        }
+        let all = (self.scan.w - 2 * b) * (ey - b);
+        by_subtraction(all, tally)
+    }
 }

@@ -6,7 +6,7 @@ ghost use Rattle.std.specs.Prelude.{◌≡◌};
 ghost use Rattle.steyrbunk_verdict.specs.Place.{place_settings, place_verdict};
 
 use params::{PeakFitMode, RadonDetectorParams};
-use verdict::{Scan, judge_at, rank};
+use verdict::{Scan, judge_at};
 
 // The settings that a verdict goes by.
 fn place_settings(ray: u32, nms: u32, least: u32) -> RadonDetectorParams
@@ -49,5 +49,5 @@ pub extern "C" fn steyrbunk_verdict(
         test,
         floor,
     };
-    rank(judge_at(response, image, scan, x, y)) as u32
+    judge_at(response, image, scan, x, y).rank() as u32
 }

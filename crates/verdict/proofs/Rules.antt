@@ -19,10 +19,10 @@ use Rattle.saddle.specs.Saddle.{saddle_of, saddle_at, disk_fits}
 use Rattle.saddle.specs.Steps.{Around}
 use Rattle.saddle.proofs.Fitting.{accepts_plain}
 use Rattle.verdict.specs.declared.Verdict.{Verdict}
-use Rattle.verdict.specs.declared.Verdict.TheVariants.{NotAbove, Beaten, TooFew, TooFlat, WrongCurvature, Kept}
+use Rattle.verdict.specs.declared.Verdict.TheVariants.{NotAbove, Beaten, TooFew}
 use Rattle.verdict.specs.declared.Scan.{Scan}
 use Rattle.verdict.specs.Window.{beaten, positives}
-use Rattle.verdict.specs.Verdict.{by_saddle, first_failing, rank, verdict}
+use Rattle.verdict.specs.Verdict.{by_saddle, first_failing, verdict}
 use Rattle.verdict.specs.Judged.{window_fits, saddle_in, first_failing_in, judged_in}
 use Rattle.verdict.specs.Room.{Room}
 
@@ -44,13 +44,6 @@ room {w = w} {h = h} {y = y} s =
 
 pub window-room : (c : Scan) (n x y : ℕ) → window_fits c n x y ≡ true → Room c.w c.h c.params.nms_radius x y n
 window-room c n x y e = room (square-fitting c.params.nms_radius n c.w c.h x y e)
-
--- what is told, by the answer b of the test and the verdict a of the rules
-pub told : {b fits : Bool} {a v : Verdict} → b ≡ fits → b ≡ true → v ≡ a → v ≡ cond fits a NotAbove
-told is e h = rw (← is, e) h
-
-pub not_told : {b fits : Bool} (a : Verdict) → b ≡ fits → b ≡ false → NotAbove ≡ cond fits a NotAbove
-not_told a is e = rw (← is, e)
 
 -- ---- the rules, in their order
 
@@ -95,13 +88,3 @@ module _ (s : Scan) (resp : List Float) (image : List ℕ) (x y : ℕ) where
       → v ≡ judged_in s resp image x y → v ≡ verdict s.params s.floor map (pixel image s.w) here
   unfolding first_failing_in verdict
   judged_plain w d t e = rw (square_so w, accepts_plain d s.test (pixel image s.w) refl, t) at e
-
--- ---- ranks
-
-pub rank_most : (v : Verdict) → rank v < 6
-rank_most NotAbove = omega arith
-rank_most Beaten = omega arith
-rank_most TooFew = omega arith
-rank_most TooFlat = omega arith
-rank_most WrongCurvature = omega arith
-rank_most Kept = omega arith

@@ -45,16 +45,6 @@ cross {w = w} {y = y} m b = record {
   end = omega (arith, (room_row m {yy = y + 1} (omega arith)).end, next_row w y);
 }
 
-pub nearest-at : (s : List Float) {w x y : ℕ} (v : Float) → Cross w x y (length s)
-    → ((lt v (entry s (y * w + x - 1)) || lt v (entry s (y * w + x + 1))) || lt v (entry s (y * w + x - w))) || lt v (entry s (y * w + x + w))
-    ≡ nearest (value s w) v x y
-nearest-at s {w} {x} {y} v k =
-    let a : y * w + x - 1 ≡ y * w + (x - 1) = omega arith in
-    let b : y * w + x + 1 ≡ y * w + (x + 1) = omega arith in
-    let d : y * w + x - w ≡ (y - 1) * w + x = omega arith in
-    let e : y * w + x + w ≡ (y + 1) * w + x = omega arith in
-    rw (a, b, d, e)
-
 either : (a b : Bool) → (a || b) ≡ true → (a ≡ true) ⊎ (b ≡ true)
 either true b h = inl refl
 either false b h = inr h

@@ -4,16 +4,17 @@
 mod neighbors;
 
 ghost use Rattle.std.specs.Prelude.{◌≡◌, length};
-ghost use Rattle.verdict.specs.Verdict.{by_saddle, is_kept, rank as rank_of};
+ghost use Rattle.verdict.specs.Verdict.{by_saddle, is_kept, rank};
 ghost use Rattle.verdict.specs.Judged.{first_failing_in, judged_in};
 ghost use Rattle.verdict.specs.Room.{Room};
 
-use neighbors::{count_positive_neighbors, is_local_max};
+use neighbors::Window;
 use params::RadonDetectorParams;
 use saddle::{Saddle, SaddleTest, accepts};
 use sizes::square_fits;
 
-#[derive(Clone, Copy)]
+// In the order of the five tests.
+#[derive(Clone, Copy, PartialEq, Eq)]
 pub enum Verdict {
     NotAbove,
     Beaten,
@@ -23,36 +24,30 @@ pub enum Verdict {
     Kept,
 }
 
-pub fn is_kept(v: Verdict) -> bool
-    ensures { result ≡ is_kept v }
-{
-    match v {
-        Verdict::Kept => true,
-        _ => false,
+impl Verdict {
+    pub fn is_kept(self) -> bool
+        ensures { result ≡ is_kept self }
+    {
+        self == Verdict::Kept
+    }
+
+    // How many of the five tests are passed before one fails; all five where it is kept.
+    pub fn rank(self) -> usize
+        ensures { result ≡ rank self }
+    {
+        self as usize
     }
 }
 
-// How many of the five tests are passed before one fails; all five where it is kept.
-pub fn rank(v: Verdict) -> usize
-    ensures { result ≡ rank_of v }
-{
-    match v {
-        Verdict::NotAbove => 0,
-        Verdict::Beaten => 1,
-        Verdict::TooFew => 2,
-        Verdict::TooFlat => 3,
-        Verdict::WrongCurvature => 4,
-        Verdict::Kept => 5,
-    }
-}
-
-fn by_saddle(s: Saddle) -> Verdict
-    ensures { result ≡ by_saddle s }
-{
-    match s {
-        Saddle::Yes => Verdict::Kept,
-        Saddle::Flat => Verdict::TooFlat,
-        Saddle::Curved => Verdict::WrongCurvature,
+impl From<Saddle> for Verdict {
+    fn from(s: Saddle) -> Verdict
+        ensures { result ≡ by_saddle s }
+    {
+        match s {
+            Saddle::Yes => Verdict::Kept,
+            Saddle::Flat => Verdict::TooFlat,
+            Saddle::Curved => Verdict::WrongCurvature,
+        }
     }
 }
 
@@ -74,19 +69,29 @@ fn by_rules(resp: &[f32], image: &[u8], scan: Scan, x: usize, y: usize) -> Verdi
     let w = scan.w;
     let h = scan.h;
     let v = resp[y * w + x];
-    if v > scan.floor {
-        let params = scan.params;
-        let r = params.nms_radius as usize;
-        if is_local_max(resp, w, h, x, y, r, v) {
-            if params.min_cluster_size <= count_positive_neighbors(resp, w, h, x, y, r, v) {
-                let k = params.ray_radius_clamped() as usize;
-                return by_saddle(accepts(scan.test, k, image, w, h, x, y));
-            }
-            return Verdict::TooFew;
-        }
+    // A NaN is not above the floor.
+    if !(v > scan.floor) {
+        return Verdict::NotAbove;
+    }
+    let params = scan.params;
+    let r = params.nms_radius as usize;
+    let window = Window {
+        resp,
+        w,
+        h,
+        x,
+        y,
+        r,
+        v,
+    };
+    if !window.is_local_max() {
         return Verdict::Beaten;
     }
-    Verdict::NotAbove
+    if window.count_positive_neighbors() < params.min_cluster_size {
+        return Verdict::TooFew;
+    }
+    let k = params.ray_radius_clamped() as usize;
+    Verdict::from(accepts(scan.test, k, image, w, h, x, y))
 }
 
 // The verdict on the candidate at (x, y). Where its window does not lie in the map nothing is known of it: it is not above the floor.

@@ -1,5 +1,5 @@
 // The two tests of a candidate's square window. The source's tests for the map's edge are gone: a candidate lies so far inside
-// (ray + suppression radius + 1) that they never fire, and each function asks for that.
+// (ray + suppression radius + 1) that they never fire, and a window lies in the map.
 ghost use Rattle.std.specs.Prelude.{◌≡◌, not, ◌+◌, ◌*◌, ◌<◌, ◌≤◌, length};
 ghost use Rattle.grid.specs.Rect.{place};
 ghost use Rattle.grid.specs.Ways.{value};
@@ -8,74 +8,77 @@ ghost use Rattle.verdict.specs.Room.{Room, Cross, RowRoom, nearest, row_part, po
 
 use crests::{count_above, first_above};
 
-// Whether one of the four nearest is greater than v.
-fn near_beats(resp: &[f32], w: usize, x: usize, y: usize, v: f32) -> bool
-    requires { Cross w x y (length resp.now) }
-    ensures { result ≡ nearest (value resp.now w) v x y }
-{
-    let c = y * w + x;
-    (resp[c - 1] > v) | (resp[c + 1] > v) | (resp[c - w] > v) | (resp[c + w] > v)
+// The window of radius r about (x, y) in a map w wide and h high, and the value v at its centre.
+#[derive(Clone, Copy)]
+pub struct Window<'a> {
+    pub resp: &'a [f32],
+    pub w: usize,
+    pub h: usize,
+    pub x: usize,
+    pub y: usize,
+    pub r: usize,
+    pub v: f32,
+    ghost lies_in: { Room w h r x y (length resp.now) },
+    ghost centre: { v ≡ value resp.now w x y },
 }
 
-// r to each side of column x in row yy, as a part of the map.
-fn row_part(resp: &[f32], w: usize, x: usize, r: usize, yy: usize) -> &[f32]
-    requires { RowRoom w x r yy (length resp.now) }
-    ensures { result.now ≡ row_part resp.now w x r yy }
-{
-    let a = yy * w + (x - r);
-    let e = a + (r + r + 1);
-    &resp[a..e]
-}
+impl<'a> Window<'a> {
+    // Whether one of the four nearest is greater than the centre.
+    fn near_beats(&self) -> bool
+        requires { 0 < self.now.r }
+        ensures { result ≡ nearest (value self.now.resp.now self.now.w) self.now.v self.now.x self.now.y }
+    {
+        let resp = self.resp;
+        let w = self.w;
+        let v = self.v;
+        let c = self.y * w + self.x;
+        (resp[c - 1] > v) | (resp[c + 1] > v) | (resp[c - w] > v) | (resp[c + w] > v)
+    }
 
-// Whether no value in the window of radius r about (x, y) is greater than v, the value there. An equal one does not beat it.
-// A candidate on a slope is beaten by one of its nearest: they are asked first.
-pub fn is_local_max(resp: &[f32], w: usize, h: usize, x: usize, y: usize, r: usize, v: f32) -> bool
-    requires { Room w h r x y (length resp.now) × (v ≡ value resp.now w x y) }
-    ensures { result ≡ not (beaten (value resp.now w) r (place x y)) }
-{
-    if 0 < r {
-        if near_beats(resp, w, x, y, v) {
+    // r to each side of the centre's column in row yy, as a part of the map.
+    fn row(&self, yy: usize) -> &[f32]
+        requires { yy < self.now.y + self.now.r + 1 }
+        ensures { result.now ≡ row_part self.now.resp.now self.now.w self.now.x self.now.r yy }
+    {
+        let a = yy * self.w + (self.x - self.r);
+        let e = a + (self.r + self.r + 1);
+        &self.resp[a..e]
+    }
+
+    // Whether no value in the window is greater than the centre. An equal one does not beat it.
+    // A candidate on a slope is beaten by one of its nearest: they are asked first.
+    pub fn is_local_max(&self) -> bool
+        ensures { result ≡ not (beaten (value self.now.resp.now self.now.w) self.now.r (place self.now.x self.now.y)) }
+    {
+        if 0 < self.r && self.near_beats() {
             return false;
         }
-    }
-    let n = r + r + 1;
-    let ay = y - r;
-    let ey = y + r + 1;
-    for yy in ay..ey {
-        if first_above(row_part(resp, w, x, r, yy), v) < n {
-            return false;
+        let n = self.r + self.r + 1;
+        for yy in self.y - self.r..self.y + self.r + 1 {
+            if first_above(self.row(yy), self.v) < n {
+                return false;
+            }
         }
+        true
     }
-    true
-}
 
-// How many values in the window of radius r about (x, y) are above zero, the one there counted too.
-fn positive_in_window(resp: &[f32], w: usize, h: usize, x: usize, y: usize, r: usize) -> u32
-    requires { Room w h r x y (length resp.now) }
-    ensures { result ≡ positives_there (value resp.now w) r (place x y) }
-{
-    let ay = y - r;
-    let ey = y + r + 1;
-    let mut count: u32 = 0;
-    for yy in ay..ey {
-        count += count_above(row_part(resp, w, x, r, yy), 0.0);
+    // How many values in the window are above zero, the centre counted too.
+    fn positives(&self) -> u32
+        ensures { result ≡ positives_there (value self.now.resp.now self.now.w) self.now.r (place self.now.x self.now.y) }
+    {
+        let mut count: u32 = 0;
+        for yy in self.y - self.r..self.y + self.r + 1 {
+            count += count_above(self.row(yy), 0.0);
+        }
+        count
     }
-    count
-}
 
-// How many values in the window of radius r about (x, y) are above zero, v, the one there, not counted.
-pub fn count_positive_neighbors(
-    resp: &[f32],
-    w: usize,
-    h: usize,
-    x: usize,
-    y: usize,
-    r: usize,
-    v: f32,
-) -> u32
-    requires { Room w h r x y (length resp.now) × (v ≡ value resp.now w x y) }
-    ensures { result ≡ positives (value resp.now w) r (place x y) }
-{
-    let count = positive_in_window(resp, w, h, x, y, r);
-    if v > 0.0 { count - 1 } else { count }
+    // How many values in the window are above zero, the centre not counted.
+    pub fn count_positive_neighbors(&self) -> u32
+        ensures { result ≡ positives (value self.now.resp.now self.now.w) self.now.r (place self.now.x self.now.y) }
+    {
+        let count = self.positives();
+        let v = self.v;
+        if v > 0.0 { count - 1 } else { count }
+    }
 }

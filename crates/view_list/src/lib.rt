@@ -8,10 +8,10 @@ use params::{Outcome, RadonDetectorParams};
 use view::RadonResponseView;
 
 // The corners of a map that is viewed, three numbers a corner: x and y in input pixels, strength.
-pub fn detect_peaks_from_radon<'a, 'l>(
-    resp: RadonResponseView<'a>,
+pub fn detect_peaks_from_radon(
+    resp: RadonResponseView<'_>,
     params: RadonDetectorParams,
-    list: &'l mut [f32],
+    list: &mut [f32],
 ) -> Outcome
     ensures answer { result ≡ peaks_outcome params resp.entry.w resp.entry.h
         resp.entry.«data».now resp.entry.image.now (length list.old) }

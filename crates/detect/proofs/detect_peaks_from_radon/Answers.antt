@@ -39,10 +39,11 @@ returns-then-number-ne0-clause-written c =
 pub scan_of-scan-requires : goal.scan_of-scan-requires
 scan_of-scan-requires c = ((asked c).response, (asked c).ray)
 
-pub find_peaks-found-requires-clause-judging : goal.find_peaks-found-requires-clause-judging
-find_peaks-found-requires-clause-judging c =
+pub invariant_of-map : goal.invariant_of-map
+invariant_of-map c =
     let o = c.args in
-    (judging o.params o.w o.h o.response.now o.image.now c.scan_of-scan.ensures (asked (goal.at.find_peaks-found-requires-clause-judging c).Else-number-ne0)).0
+    let a = asked (goal.at.invariant_of-map c).Else-number-ne0 in
+    record { judging = (judging o.params o.w o.h o.response.now o.image.now c.scan_of-scan.ensures a).0 }
 
 pub returns-clause-answer : goal.returns-clause-answer
 returns-clause-answer c =

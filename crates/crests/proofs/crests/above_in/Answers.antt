@@ -1,20 +1,12 @@
--- `crests::crests::above_in` meets its contract. The invariant counts the entries passed. Assumes nothing.
-use native.Mathlib.Omega.{arith}
-use Rattle.grid.proofs.Each.{count_none, count_yes, count_no}
-use Rattle.grid.proofs.Rect.{range_none, range_more}
+-- `crests::crests::above_in` meets its contract: what the filter lets through are the entries above the floor. Assumes nothing.
+use Rattle.std.specs.Prelude.{◌≡◌, count_by}
+use Rattle.std.specs.Float.Ieee.{lt}
+use Rattle.std.proofs.Common.{arith, ◌∙◌}
+use Rattle.std.proofs.lemmas.Grind.{common_steps}
+use Rattle.crests.proofs.Passing.{above-entries}
 use Rattle.crests.proofs.crests.above_in.Goals as goal
-use Rattle.crests.proofs.crests.above_in.Goals.{then-part-i, else-part-i}
 
-pub loop-i-init : goal.loop-i-init
-loop-i-init c = (omega arith, omega arith, rw range_none (count_none _))
-
-pub loop-i-preserved : goal.loop-i-preserved
-loop-i-preserved c =
-    let l = c.loop-i in (
-      omega arith,
-      elim c.if-part-i.branch [ then-part-i w ↦ omega arith | else-part-i w ↦ omega arith ],
-      rw (range_more 0 l.i (omega arith)) (elim c.if-part-i.branch [
-        | then-part-i w ↦ rw w.n-is (count_yes _ _ _ l.invariant.2 w.if-part-i.true)
-        | else-part-i w ↦ rw w.n-is (count_no _ _ _ l.invariant.2 w.if-part-i.false)
-      ]),
-    )
+pub returns : goal.returns
+returns c =
+    let e : c.sum.result ≡ count_by (lt c.args.floor) c.args.part.now = grind (arith, common_steps) in
+    e ∙ above-entries c.args.floor c.args.part.now
