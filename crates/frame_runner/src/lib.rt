@@ -9,6 +9,7 @@ use params::Outcome;
 
 // What a frame file is answered, over buffers that the caller lends: the file's own refusal, 10 where it has more than `limit` bytes, or what the
 // finder makes of its frame.
+#[tactic(auto, unfolding(crate::specs::FileAnswer::file_outcome, crate::specs::FileAnswer::file_buffers))]
 pub fn run_frame_file(
     file: &[u8],
     limit: usize,
