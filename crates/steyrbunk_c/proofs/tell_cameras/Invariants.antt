@@ -3,4 +3,4 @@ use Rattle.steyrbunk_c.proofs.Cameras.{Telling}
 use Rattle.steyrbunk_c.proofs.tell_cameras.Given as goal
 
 abbrev pub invariant-loop-i : goal.invariant-loop-i
-invariant-loop-i l = Telling l.cameras l.initial.told l.told l.i
+invariant-loop-i l = Telling l.fn.cameras l.fn.told l.told l.i
