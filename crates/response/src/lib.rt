@@ -5,6 +5,7 @@ ghost use Rattle.std.specs.Prelude.{◌≡◌, min};
 ghost use Rattle.response.specs.Map.{map_lent, mapped_of, map_buffers_of};
 
 use blur::box_blur_inplace;
+use cumsums::Tables;
 use params::{Answer, RadonDetectorParams, judge_map_call};
 use rays::{Size, ray_response};
 use sizes::lesser;
@@ -74,7 +75,13 @@ pub fn radon_response_u8(
         h: wh,
         r: ray,
     };
-    ray_response(working, size, row, col, falling, rising, response);
+    let tables = &mut Tables {
+        row,
+        col,
+        falling,
+        rising,
+    };
+    ray_response(working, size, tables, response);
     box_blur_inplace(response, scratch, ww, wh, radius);
     Mapped {
         answer: Answer::Complete,

@@ -1,5 +1,5 @@
 -- `response::radon_response_u8` meets its contract: refused, or the three passes one after the other. Assumes nothing.
-use mathlib.Core.Path.{refl}
+use mathlib.Core.Path.{refl, sym}
 use mir.Facts.{Fits-le, Fits-lit}
 use lib.ListN.{length}
 use Rattle.response.specs.Map.{Buffers, map_lent}
@@ -49,13 +49,15 @@ returns-clause-answer c =
     (when_accepted c.args.img.now c.args.w c.args.h c.args.p (lent (goal.at.returns-clause-answer c).Start) c.shortest-room.ensures
     c.judge_map_call-answer.ensures c.number.ensures c.if-number-ne0.false
     c.image_upsample_clamped-factor.ensures c.ray_radius_clamped-ray.ensures refl
-    (composed (runs (goal.at.returns-clause-answer c).After-ray_radius_clamped-ray) c.args.img.now refl c.upsample.ensures c.ray_response.ensures
+    (composed (runs (goal.at.returns-clause-answer c).After-ray_radius_clamped-ray) c.args.img.now refl c.upsample.ensures c.ray_response.ensures.filled
     c.box_blur_inplace.ensures.resp_after c.box_blur_inplace.ensures.scratch_after)).0
 
 pub returns-clause-buffers : goal.returns-clause-buffers
 returns-clause-buffers c =
+    let e = c.ray_response.ensures.same in
+    rw (c.row-1.given.1.1 (sym e.row), c.col-1.given.1.1 (sym e.col), c.falling-1.given.1.1 (sym e.falling), c.rising-1.given.1.1 (sym e.rising))
     (when_accepted c.args.img.now c.args.w c.args.h c.args.p (lent (goal.at.returns-clause-buffers c).Start) c.shortest-room.ensures
     c.judge_map_call-answer.ensures c.number.ensures c.if-number-ne0.false
     c.image_upsample_clamped-factor.ensures c.ray_radius_clamped-ray.ensures refl
-    (composed (runs (goal.at.returns-clause-buffers c).After-ray_radius_clamped-ray) c.args.img.now refl c.upsample.ensures c.ray_response.ensures
+    (composed (runs (goal.at.returns-clause-buffers c).After-ray_radius_clamped-ray) c.args.img.now refl c.upsample.ensures c.ray_response.ensures.filled
     c.box_blur_inplace.ensures.resp_after c.box_blur_inplace.ensures.scratch_after)).1
