@@ -12,10 +12,10 @@ use Rattle.grid.specs.Fill.{filled}
 use Rattle.grid.proofs.Fill.{filled_zero, fill_step}
 use Rattle.params.specs.declared.answers.Outcome.{Outcome}
 use Rattle.radon.specs.Finder.{Buffers}
-use Rattle.arch_plan.specs.Plan.{due_in, rest_at}
+use Rattle.arch_plan.specs.Plan.{due_in, behind, rest_at}
 use Rattle.arch.specs.Arch.{camera_outcome, camera_buffers, lent_to, back_from, left_by, told, no_frame}
 use Rattle.arch_plan.specs.Gone.{gone_by}
-use Rattle.arch_plan.proofs.Frames.{next_inside, next_rest}
+use Rattle.arch_plan.proofs.Frames.{next_rest}
 use Rattle.arch_plan.proofs.InList.{share_in}
 
 -- a call changes no length
@@ -62,71 +62,69 @@ length_back a k l z e =
     simp length-append
     (omega (arith, length-take a l, length-drop a l, length-take k (drop a l), length-drop k (drop a l)))
 
--- b is what was lent, and c what it is after the first i cameras, of which `out` has what they were told; the next frame is due at `at`
-pub record Ran (frames : List ℕ) (size cameras : ℕ) (b c : Buffers) (out : List Outcome) (at i : ℕ) : Type 0 where
+-- b is what was lent, and c what it is after the first i cameras, of which `out` has what they were told; `rest` is left of the frames
+pub record Ran (frames : List ℕ) (size cameras : ℕ) (b c : Buffers) (out : List Outcome) (rest : List ℕ) (i : ℕ) : Type 0 where
   pub eight : cameras ≤ 8
   pub room : cameras * size ≤ length b.list
   pub most : i ≤ cameras
-  pub inside : at ≤ length frames
-  pub rest : drop at frames ≡ rest_at frames i
+  pub due : rest ≡ rest_at frames i
   pub left : c ≡ left_by frames size b i
   pub tells : out ≡ filled i (told frames size b) (replicate 8 no_frame)
   pub long : SameLengths b c
 
 module _ (frames : List ℕ) (size cameras : ℕ) (b : Buffers) where
   pub ran_none : {none : Outcome} → none ≡ no_frame → (cameras ≤ 8) × (cameras * size ≤ length b.list)
-      → Ran frames size cameras b b (replicate 8 none) 0 0
+      → Ran frames size cameras b b (replicate 8 none) frames 0
   unfolding rest_at left_by
   ran_none is (eight, room) = record {
     eight = eight;
     room = room;
     most = omega arith;
-    inside = omega arith;
-    rest = refl;
+    due = refl;
     left = refl;
     tells = ap (replicate 8) is ∙ filled_zero _ _;
     long = same_lengths b;
   }
 
   -- camera i's share lies in the list
-  pub share_room : {c : Buffers} {out : List Outcome} {at i : ℕ} → Ran frames size cameras b c out at i → i < cameras
+  pub share_room : {c : Buffers} {out : List Outcome} {rest : List ℕ} {i : ℕ} → Ran frames size cameras b c out rest i → i < cameras
       → (i < 8) × (i * size + size ≤ length c.list)
   share_room ran goes = (omega arith, omega (arith, share_in size goes ran.room))
 
   -- a turn: camera i was told o and left d of what it was lent, and its frame took n bytes
-  module _ {c : Buffers} {out : List Outcome} {at i : ℕ} (ran : Ran frames size cameras b c out at i) (goes : i < cameras)
+  module _ {c : Buffers} {out : List Outcome} {rest : List ℕ} {i : ℕ} (ran : Ran frames size cameras b c out rest i) (goes : i < cameras)
       {o : Outcome} {d : Buffers} {n : ℕ}
-      (tell : o ≡ camera_outcome (drop at frames) (due_in (drop at frames)) (lent_to size i c))
-      (leave : d ≡ camera_buffers (drop at frames) (due_in (drop at frames)) (lent_to size i c))
-      (gone : n ≡ gone_by (due_in (drop at frames)) (length (drop at frames))) where
+      (tell : o ≡ camera_outcome rest (due_in rest) (lent_to size i c))
+      (leave : d ≡ camera_buffers rest (due_in rest) (lent_to size i c))
+      (gone : n ≡ gone_by (due_in rest) (length rest)) where
     told_next : o ≡ told frames size b i
     unfolding told
-    told_next = tell ∙ (λ k. camera_outcome (ran.rest k) (due_in (ran.rest k)) (lent_to size i (ran.left k)))
+    told_next = tell ∙ (λ k. camera_outcome (ran.due k) (due_in (ran.due k)) (lent_to size i (ran.left k)))
 
     left_next : back_from size i c d ≡ left_by frames size b (i + 1)
     unfolding left_by
     left_next =
         rw (add-one i)
         (ap (back_from size i c) leave
-        ∙ (λ k. back_from size i (ran.left k) (camera_buffers (ran.rest k) (due_in (ran.rest k)) (lent_to size i (ran.left k)))))
+        ∙ (λ k. back_from size i (ran.left k) (camera_buffers (ran.due k) (due_in (ran.due k)) (lent_to size i (ran.left k)))))
 
-    ran_more : SameLengths b (back_from size i c d) → Ran frames size cameras b (back_from size i c d) (set out i o) (at + n) (i + 1)
+    due_next : drop n rest ≡ rest_at frames (i + 1)
+    unfolding rest_at
+    due_next = rw (add-one i) (next_rest rest gone ∙ ap (λ (l : List ℕ). behind l (due_in l)) ran.due)
+
+    ran_more : SameLengths b (back_from size i c d) → Ran frames size cameras b (back_from size i c d) (set out i o) (drop n rest) (i + 1)
     ran_more long = record {
       eight = ran.eight;
       room = ran.room;
       most = omega arith;
-      inside = next_inside frames i ran.inside ran.rest gone;
-      rest = next_rest frames i ran.inside ran.rest gone;
+      due = due_next;
       left = left_next;
       tells = fill_step _ _ i ran.tells told_next;
       long = long;
     }
 
-  -- the same as the code has it: `&frames[at..]` goes to the frames' length, `&mut list[a..e]` with e = a + size
-  module _ {c : Buffers} {out : List Outcome} {at i : ℕ} (ran : Ran frames size cameras b c out at i) (goes : i < cameras) where
-    abbrev rest : List ℕ
-    rest = take (length frames - at) (drop at frames)
-
+  -- the same as the code has it: `&rest[n..]` goes to the end of what is left, `&mut list[a..e]` with e = a + size
+  module _ {c : Buffers} {out : List Outcome} {rest : List ℕ} {i : ℕ} (ran : Ran frames size cameras b c out rest i) (goes : i < cameras) where
     abbrev part : ℕ
     part = i * size + size - i * size
 
@@ -136,24 +134,19 @@ module _ (frames : List ℕ) (size cameras : ℕ) (b : Buffers) where
     abbrev returned : Buffers → Buffers
     returned d = record { map = d.map; list = take (i * size) c.list ++ (d.list ++ drop part (drop (i * size) c.list)) }
 
-    all : rest ≡ drop at frames
-    all = take_all (length frames - at) (drop at frames) (omega (arith, length-drop at frames))
-
-    -- the next frame is due in the slice
-    pub next_in : {n : ℕ} → n ≡ gone_by (due_in rest) (length rest) → at + n ≤ length frames
-    next_in gone = next_inside frames i ran.inside ran.rest (rw all at gone)
-
     lengths_back : {d : Buffers} → SameLengths given d → SameLengths b (returned d)
     lengths_back {d} s = lengths_on ran.long s (length_back (i * size) part c.list d.list s.list ∙ ran.long.list)
 
     pub ran_turn : {o : Outcome} {d : Buffers} {n : ℕ} → o ≡ camera_outcome rest (due_in rest) given → d ≡ camera_buffers rest (due_in rest) given
-        → n ≡ gone_by (due_in rest) (length rest) → SameLengths given d → Ran frames size cameras b (returned d) (set out i o) (at + n) (i + 1)
-    ran_turn tell leave gone long =
+        → n ≡ gone_by (due_in rest) (length rest) → SameLengths given d
+        → Ran frames size cameras b (returned d) (set out i o) (take (length rest - n) (drop n rest)) (i + 1)
+    ran_turn {n = n} tell leave gone long =
         let whole : part ≡ size = omega arith in
-        rw whole
-        (ran_more ran goes (rw (all, whole) at tell) (rw (all, whole) at leave) (rw all at gone) (rw whole at (lengths_back long)))
+        let all : take (length rest - n) (drop n rest) ≡ drop n rest = take_all (length rest - n) (drop n rest) (omega (arith, length-drop n rest)) in
+        rw (whole, all)
+        (ran_more ran goes (rw whole at tell) (rw whole at leave) gone (rw whole at (lengths_back long)))
 
-  pub ran_all : {c : Buffers} {out : List Outcome} {at i : ℕ} → Ran frames size cameras b c out at i → cameras ≤ i
+  pub ran_all : {c : Buffers} {out : List Outcome} {rest : List ℕ} {i : ℕ} → Ran frames size cameras b c out rest i → cameras ≤ i
       → (out ≡ filled cameras (told frames size b) (replicate 8 no_frame)) × (c ≡ left_by frames size b cameras)
   ran_all ran done =
       let last : _ ≡ cameras = le_antisymm ran.most done in

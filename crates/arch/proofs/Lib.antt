@@ -1,4 +1,3 @@
--- Steps of the proofs: one camera, the loop over cameras, and the call.
-pub mod Cases
+-- Steps of the proofs: the loop over cameras, and the call.
 pub mod Cameras
 pub mod Call

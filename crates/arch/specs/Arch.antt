@@ -1,7 +1,8 @@
 -- Document 02, ticket 2, "All cameras of an arch at once": what each camera is told, and what the call leaves in the lent buffers. Of finding it says
 -- nothing: what a camera is told and leaves is what a single call does, `file_outcome` and `file_buffers`. Where frames stand is in arch_plan/specs/Plan.
-use Rattle.std.specs.Prelude.{cond, List, ◌++◌, ℕ, zero, suc, ◌*◌, Float, length, take, drop, replicate}
+use Rattle.std.specs.Prelude.{cond, List, ◌++◌, ℕ, zero, suc, ◌*◌, Float, length, take, drop, replicate, Result, Ok, Err}
 use Rattle.grid.specs.Fill.{filled}
+use Rattle.params.specs.declared.answers.Answer.{Answer}
 use Rattle.params.specs.declared.answers.Answer.TheVariants.{Complete, FileTooShort, Cameras}
 use Rattle.params.specs.declared.answers.Outcome.{Outcome}
 use Rattle.params.specs.Answers.{refused}
@@ -9,21 +10,19 @@ use Rattle.response.specs.Map.{accepts}
 use Rattle.radon.specs.Finder.{Buffers}
 use Rattle.frame_runner.specs.FileAnswer.{file_outcome, file_buffers}
 use Rattle.arch.specs.declared.ArchOutcome.{ArchOutcome}
-use Rattle.arch_plan.specs.declared.due.Due.{Due}
-use Rattle.arch_plan.specs.declared.due.Due.TheVariants.{Whole, Refused}
 use Rattle.arch_plan.specs.Plan.{due_in, rest_at, share_size, arch_refusal}
 
 -- ---- one camera, over what it is lent
 
 -- "The answer, count and share of every frame that lies whole in the slice equal those of a single call", which has no limit on a file's length here:
 -- "10 isn't given"
-abbrev pub camera_outcome : List ℕ → Due → Buffers → Outcome
-camera_outcome rest (Whole n) b = file_outcome n (take n rest) b
-camera_outcome rest (Refused answer) b = refused answer
+abbrev pub camera_outcome : List ℕ → Result ℕ Answer → Buffers → Outcome
+camera_outcome rest (Ok n) b = file_outcome n (take n rest) b
+camera_outcome rest (Err answer) b = refused answer
 
-abbrev pub camera_buffers : List ℕ → Due → Buffers → Buffers
-camera_buffers rest (Whole n) b = file_buffers n (take n rest) b
-camera_buffers rest (Refused answer) b = b
+abbrev pub camera_buffers : List ℕ → Result ℕ Answer → Buffers → Buffers
+camera_buffers rest (Ok n) b = file_buffers n (take n rest) b
+camera_buffers rest (Err answer) b = b
 
 -- ---- "one list in which each frame gets an equal share of whole corners, the remainder unused"
 

@@ -8,7 +8,7 @@ ghost use Rattle.radon.specs.Finder.{lent};
 ghost use Rattle.arch_plan.specs.Plan.{due_in};
 ghost use Rattle.arch.specs.Arch.{camera_outcome, camera_buffers, told, no_frame, left_by, arch_outcome, arch_buffers};
 
-use arch_plan::{Due, due_in, gone_in, judge_arch, share_size};
+use arch_plan::{due_in, gone_in, judge_arch, share_size};
 use frame_runner::run_frame_file;
 use params::{Answer, Outcome};
 
@@ -40,10 +40,9 @@ fn run_camera(
         (lent working.old row.old col.old falling.old
         rising.old response.old scratch.old share.old) }
 {
-    let due = due_in(rest);
-    match due {
-        Due::Refused(answer) => Outcome::refusal(answer),
-        Due::Whole(n) => run_frame_file(
+    match due_in(rest) {
+        Err(answer) => Outcome::refusal(answer),
+        Ok(n) => run_frame_file(
             &rest[..n],
             n,
             working,
@@ -82,11 +81,10 @@ fn run_cameras(
         (lent working.old row.old col.old falling.old
         rising.old response.old scratch.old list.old) cameras }
 {
-    let none = Outcome::refusal(Answer::FileTooShort);
-    let mut told = [none; 8];
-    let mut at = 0;
+    let mut told = [Outcome::refusal(Answer::FileTooShort); 8];
+    let mut rest = frames;
+    // Counted: after a `zip` over the shares a proof would know how long they are, and not what was written into them.
     for i in 0..cameras {
-        let rest = &frames[at..];
         let a = i * size;
         let e = a + size;
         told[i] = run_camera(
@@ -100,7 +98,7 @@ fn run_cameras(
             scratch,
             &mut list[a..e],
         );
-        at += gone_in(rest);
+        rest = &rest[gone_in(rest)..];
     }
     told
 }
@@ -128,12 +126,10 @@ pub fn run_arch(
         (lent working.old row.old col.old falling.old
         rising.old response.old scratch.old list.old) }
 {
-    let answer = judge_arch(cameras, list.len());
-    if answer.number() != 0 {
-        let none = Outcome::refusal(answer);
+    if let Err(answer) = judge_arch(cameras, list.len()) {
         return ArchOutcome {
             answer,
-            cameras: [none; 8],
+            cameras: [Outcome::refusal(answer); 8],
         };
     }
     let size = share_size(cameras, list.len());
@@ -141,7 +137,7 @@ pub fn run_arch(
         cameras, size, frames, working, row, col, falling, rising, response, scratch, list,
     );
     ArchOutcome {
-        answer,
+        answer: Answer::Complete,
         cameras: told,
     }
 }

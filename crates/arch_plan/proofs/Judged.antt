@@ -5,7 +5,7 @@ use mathlib.Core.Logic.{◌⊎◌, inl, inr}
 use Prim.Native.Nat.{ℕ, ◌/◌, ◌≤◌}
 use native.Mathlib.Omega.{arith}
 use borrow.Author.Tests.{ltb-false}
-use lib.Dec.{ltb}
+use lib.Dec.{ltb, eqb}
 use Rattle.params.specs.declared.answers.Answer.TheVariants.{Complete, Cameras}
 use Rattle.params.specs.Answers.{number_of}
 use Rattle.detect.specs.Corners.{stride}
@@ -33,8 +33,8 @@ module _ (n m : ℕ) where
     | inr (e, (s, (t, u))) ↦ inr (e, record { two = ltb-false n 2 s; eight = ltb-false 8 n t; corner = ltb-false (m / stride) n u })
   ]
 
-  pub refuses : (number_of (arch_refusal n m) ≡ 0 → ⊥) → arch_refusal n m ≡ Cameras
-  refuses z = elim judged [ inl e ↦ e | inr (e, t) ↦ absurd (z (rw e)) ]
+  pub refuses : eqb (number_of (arch_refusal n m)) 0 ≡ false → arch_refusal n m ≡ Cameras
+  refuses z = elim judged [ inl e ↦ e | inr (e, t) ↦ let z0 = rw e at z in cc ]
 
   pub takes : number_of (arch_refusal n m) ≡ 0 → (arch_refusal n m ≡ Complete) × Takes n m
   takes z = elim judged [

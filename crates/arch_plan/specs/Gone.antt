@@ -1,9 +1,8 @@
 -- How many of the bytes that are left are gone behind a camera's frame.
-use Rattle.std.specs.Prelude.{ℕ}
-use Rattle.arch_plan.specs.declared.due.Due.{Due}
-use Rattle.arch_plan.specs.declared.due.Due.TheVariants.{Whole, Refused}
+use Rattle.std.specs.Prelude.{ℕ, Result, Ok, Err}
+use Rattle.params.specs.declared.answers.Answer.{Answer}
 
 -- all, where it is not whole
-abbrev pub gone_by : Due → ℕ → ℕ
-gone_by (Whole n) left = n
-gone_by (Refused answer) left = left
+abbrev pub gone_by : Result ℕ Answer → ℕ → ℕ
+gone_by (Ok n) left = n
+gone_by (Err answer) left = left

@@ -1,26 +1,24 @@
 -- Document 02, ticket 2, "All cameras of an arch at once": where each camera's frame stands, how large its share is, and which calls are refused.
-use Rattle.std.specs.Prelude.{cond, List, [], ℕ, zero, suc, ◌+◌, ◌*◌, ◌/◌, ltb, length, drop}
+use Rattle.std.specs.Prelude.{cond, List, [], ℕ, zero, suc, ◌+◌, ◌*◌, ◌/◌, ltb, length, drop, Result, Ok, Err}
 use Rattle.big_endian.specs.BigEndian.{word_at}
 use Rattle.params.specs.declared.answers.Answer.{Answer}
 use Rattle.params.specs.declared.answers.Answer.TheVariants.{Complete, FileTooShort, StatedLength, Cameras}
 use Rattle.detect.specs.Corners.{stride}
-use Rattle.arch_plan.specs.declared.due.Due.{Due}
-use Rattle.arch_plan.specs.declared.due.Due.TheVariants.{Whole, Refused}
 
 -- ---- "that many frame files laid end to end in one slice": `rest` is what is left of the slice from where a camera's frame begins
 
 -- "Where that length runs past the end, that frame answers 13, whatever else is wrong with it; with under five bytes left it answers 11". A frame
 -- that lies whole in the slice has the five bytes and its stated length
-unfoldable pub due_in : List ℕ → Due
+unfoldable pub due_in : List ℕ → Result ℕ Answer
 due_in rest =
-    cond (ltb (length rest) 5) (Refused FileTooShort)
-    (cond (ltb (length rest) (5 + word_at rest 1)) (Refused StatedLength)
-    (Whole (5 + word_at rest 1)))
+    cond (ltb (length rest) 5) (Err FileTooShort)
+    (cond (ltb (length rest) (5 + word_at rest 1)) (Err StatedLength)
+    (Ok (5 + word_at rest 1)))
 
 -- "the next begins after its stated length", whatever the frame is answered; "either way the later ones answer 11": nothing is left for them
-abbrev pub behind : List ℕ → Due → List ℕ
-behind rest (Whole n) = drop n rest
-behind rest (Refused answer) = []
+abbrev pub behind : List ℕ → Result ℕ Answer → List ℕ
+behind rest (Ok n) = drop n rest
+behind rest (Err answer) = []
 
 -- what is left for camera i, counted from 0
 unfoldable pub rest_at : List ℕ → ℕ → List ℕ

@@ -7,13 +7,6 @@ ghost use Rattle.arch_plan.specs.Gone.{gone_by};
 use big_endian::word_at;
 use params::Answer;
 
-// A whole frame file of so many bytes, or the refusal of one that is not whole.
-#[derive(Clone, Copy)]
-pub enum Due {
-    Whole(usize),
-    Refused(Answer),
-}
-
 // The bytes up to the end of the stated length.
 const LEAD: usize = 5;
 
@@ -24,32 +17,25 @@ fn stated_in(rest: &[u8]) -> usize
     word_at(rest, 1) as usize
 }
 
-// The stated length is held to what is left, so no sum with it can wrap.
-pub fn due_in(rest: &[u8]) -> Due
+// A whole frame file of so many bytes, or the refusal of one that is not whole. The stated length is held to what is left, so no sum with it can
+// wrap.
+#[tactic(auto, unfolding(crate::specs::Plan::due_in))]
+pub fn due_in(rest: &[u8]) -> Result<usize, Answer>
     ensures { result ≡ due_in rest.now }
 {
     let stated = stated_in(rest);
     if rest.len() < LEAD {
-        return Due::Refused(Answer::FileTooShort);
+        return Err(Answer::FileTooShort);
     }
     if rest.len() - LEAD < stated {
-        return Due::Refused(Answer::StatedLength);
+        return Err(Answer::StatedLength);
     }
-    Due::Whole(LEAD + stated)
+    Ok(LEAD + stated)
 }
 
-// How many of `left` bytes are gone behind it: all, where it is not whole.
-fn gone(due: Due, left: usize) -> usize
-    ensures { result ≡ gone_by due left }
-{
-    match due {
-        Due::Whole(n) => n,
-        Due::Refused(_) => left,
-    }
-}
-
+// How many of the bytes that are left are gone behind it: all, where it is not whole.
 pub fn gone_in(rest: &[u8]) -> usize
     ensures { result ≡ gone_by (due_in rest.now) (length rest.now) }
 {
-    gone(due_in(rest), rest.len())
+    due_in(rest).unwrap_or(rest.len())
 }

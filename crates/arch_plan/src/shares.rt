@@ -1,5 +1,6 @@
 // The shares of the list: how large they are, and whether there is a corner in each.
 ghost use Rattle.std.specs.Prelude.{◌≡◌};
+ghost use Rattle.params.specs.Refusals.{as_result};
 ghost use Rattle.arch_plan.specs.Plan.{arch_refusal, share_size};
 
 use params::Answer;
@@ -12,19 +13,14 @@ const MOST: usize = 8;
 const STRIDE: usize = 3;
 
 // Answer 21: `room` is the list's length.
-pub fn judge_arch(cameras: usize, room: usize) -> Answer
-    ensures { result ≡ arch_refusal cameras room }
+#[tactic(auto, unfolding(crate::specs::Plan::arch_refusal))]
+pub fn judge_arch(cameras: usize, room: usize) -> Result<(), Answer>
+    ensures { result ≡ as_result (arch_refusal cameras room) }
 {
-    if cameras < FEWEST {
-        return Answer::Cameras;
+    if cameras < FEWEST || cameras > MOST || room / STRIDE < cameras {
+        return Err(Answer::Cameras);
     }
-    if cameras > MOST {
-        return Answer::Cameras;
-    }
-    if room / STRIDE < cameras {
-        return Answer::Cameras;
-    }
-    Answer::Complete
+    Ok(())
 }
 
 // How many numbers of the list each camera has: those of whole corners. No camera has none.

@@ -1,9 +1,10 @@
 -- What a call that is not refused has passed, and what it answers: the steps behind `detect_peaks_from_radon`. Assumes nothing.
-use mathlib.Core.Path.{◌≡◌, refl, sym, ap, ◌∙◌}
+use Rattle.std.specs.Prelude.{Ok, Err}
+use mathlib.Core.Path.{◌≡◌, refl, ap, ◌∙◌}
 use mathlib.Core.Bool.{Bool, true, false, ◌||◌, cond}
 use Prim.Native.Nat.{ℕ, ◌*◌, ◌/◌, ◌≤◌, min}
 use native.Mathlib.Omega.{arith}
-use borrow.Author.Tests.{ltb-false, le-leb, lt-leb, leb-true, leb-false, eq-eqb, ne_eqb}
+use borrow.Author.Tests.{ltb-false, le-leb, lt-leb, leb-true, leb-false, eq-eqb}
 use mathlib.Core.List.{List}
 use lib.ListN.{length}
 use lib.Dec.{ltb, leb, eqb}
@@ -14,7 +15,8 @@ use Rattle.params.specs.declared.answers.Verdicts.{Verdicts}
 use Rattle.params.specs.declared.answers.Outcome.{Outcome}
 use Rattle.params.specs.declared.settings.RadonDetectorParams.{RadonDetectorParams}
 use Rattle.params.specs.Answers.{number_of, refused}
-use Rattle.params.specs.Refusals.{or_else, map_refusal, list_refusal, room_refusal}
+use Rattle.params.specs.Refusals.{or_else, map_refusal, list_refusal, room_refusal, as_result}
+use Rattle.params.proofs.Judged.{ok_zero, err_is}
 use Rattle.params.proofs.Accepted.{both_pass, map_passes, list_passes, room_passes}
 use Rattle.verdict.specs.declared.Scan.{Scan}
 use Rattle.detect.specs.Corners.{stride}
@@ -65,28 +67,28 @@ leb_min a b = go (leb a b) refl
 pub all_stored : (found room : ℕ) {n : ℕ} {r : Answer} → n ≡ min found room → r ≡ full_or found n → r ≡ full_or found room
 all_stored found room e f = f ∙ ap (full_or found) e ∙ ap (λ (t : Bool). cond t Complete ListFull) (leb_min found room)
 
--- ---- the two ends of a call, from the answer a of the judge and its number n
+-- ---- the two ends of a call, by what the judge gave
 
-module _ (s : RadonDetectorParams) (w h : ℕ) (resp : List Float) (image : List ℕ) (old : List Float) {a : Answer} {n : ℕ}
-    (is : a ≡ refusal_for s w h resp image) (number : n ≡ number_of a) where
+module _ (s : RadonDetectorParams) (w h : ℕ) (resp : List Float) (image : List ℕ) (old : List Float) where
   -- the two promises, of what is answered and of what the list holds
   abbrev Promised : Outcome → List Float → Type 0
   Promised r out = (r ≡ peaks_outcome s w h resp image (length old)) × (out ≡ list_of s w h resp image old)
 
-  pub refuses : {r : Outcome} → (n ≡ 0 → ⊥) → r ≡ refused a → Promised r old
+  pub refuses : {a : Answer} {r : Outcome} → Err a ≡ as_result (refusal_for s w h resp image) → r ≡ refused a → Promised r old
   unfolding peaks_outcome list_of
-  refuses z e =
-      let q : eqb (number_of (refusal_for s w h resp image)) 0 ≡ false = ne_eqb _ 0 (λ u. z (number ∙ ap number_of is ∙ u)) in
-      rw q (e ∙ ap refused is, refl)
+  refuses j e =
+      let i = err_is (refusal_for s w h resp image) refl j in
+      rw i.1 (e ∙ ap refused i.0, refl)
 
-  pub passes_on : n ≡ 0 → Asked s w h (length resp) (length image)
-  passes_on z = asked s w h (length resp) (length image) (ap number_of (sym is) ∙ sym number ∙ z)
+  pub passes_on : Ok tt ≡ as_result (refusal_for s w h resp image) → Asked s w h (length resp) (length image)
+  passes_on j = asked s w h (length resp) (length image) (ok_zero (refusal_for s w h resp image) refl j)
 
-  pub answers : {c : Scan} {found : Verdicts} {out : List Float} {r : Answer} → n ≡ 0 → c ≡ scan_of s w h resp → Found c resp image old found out
+  pub answers : {c : Scan} {found : Verdicts} {out : List Float} {r : Answer} → Ok tt ≡ as_result (refusal_for s w h resp image)
+      → c ≡ scan_of s w h resp → Found c resp image old found out
       → r ≡ full_or found.kept (length old / stride) → Promised (record { answer = r; count = found.kept; w = w; h = h; verdicts = found }) out
   unfolding peaks_outcome list_of
-  answers z by t e =
-      let q : eqb (number_of (refusal_for s w h resp image)) 0 ≡ true = eq-eqb _ 0 (ap number_of (sym is) ∙ sym number ∙ z) in
+  answers j by t e =
+      let q : eqb (number_of (refusal_for s w h resp image)) 0 ≡ true = eq-eqb _ 0 (ok_zero (refusal_for s w h resp image) refl j) in
       let f = rw by at t in
       let full = e ∙ ap (λ (n : ℕ). full_or n (length old / stride)) f.count in
       rw q ((λ i. record { answer = full i; count = f.count i; w = w; h = h; verdicts = f.verdicts i }), f.list)

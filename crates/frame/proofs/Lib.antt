@@ -1,3 +1,2 @@
--- What the proofs of the functions cite, and what holds of the definitions.
-pub mod Order
+-- What holds of the definitions.
 pub mod RoundTrip

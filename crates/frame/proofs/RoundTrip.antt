@@ -1,6 +1,7 @@
 -- No good file is refused: the bytes that document 01 prescribes for a header and pixels are taken, and mean that
 -- header and those pixels. And no other file is taken: every taken file is the one for its fields and pixels. Assumes
 -- nothing.
+use Rattle.std.specs.Prelude.{Result, Ok, Err}
 use mathlib.Core.Path.{◌≡◌, refl, ◌∙◌}
 use mathlib.Core.Bool.{Bool, true, false, cond}
 use mathlib.Core.List.{List, ◌∷◌, ◌++◌}
@@ -14,12 +15,8 @@ use Rattle.big_endian.specs.BigEndian.{byte_at, half_at, word_at, half_bytes, wo
 use Rattle.big_endian.proofs.Numbers.{Bytes, halves, words, half_bytes_lem, word_bytes_lem, half_back, word_back, byte-below, opened-is}
 use Rattle.params.specs.declared.answers.Answer.{Answer}
 use Rattle.params.specs.declared.settings.PeakFitMode.{PeakFitMode}
-use Rattle.params.specs.declared.settings.NumberedMode.{NumberedMode}
-use Rattle.params.specs.declared.settings.NumberedMode.TheVariants as numbered
 use Rattle.params.specs.Settings.{mode_numbered}
 use Rattle.frame.specs.declared.Header.{Header}
-use Rattle.frame.specs.declared.Reading.{Reading}
-use Rattle.frame.specs.declared.Reading.TheVariants.{Frame, Refused}
 use Rattle.frame.specs.FrameFile.{header_of, with_mode, header_read, read_of}
 
 -- what the fields hold, as numbers
@@ -74,8 +71,8 @@ header_with f fit = record {
 }
 
 pub good_file_taken : (limit : ℕ) (f : Fields) (fit : PeakFitMode) (pixels : List ℕ)
-    → mode_numbered f.mode ≡ numbered.Known fit → 20 + length pixels ≤ limit
-    → read_of limit (file_of f pixels) ≡ Frame (header_with f fit)
+    → mode_numbered f.mode ≡ Ok fit → 20 + length pixels ≤ limit
+    → read_of limit (file_of f pixels) ≡ Ok (header_with f fit)
 unfolding read_of header_read header_of
 good_file_taken limit f fit pixels m h =
     let n = length (file_of f pixels) in
@@ -160,22 +157,22 @@ fields_of file = record {
   threshold = word_at file 16;
 }
 
-past : (t : Bool) (a : Answer) (b : Reading) (h : Header) → cond t (Refused a) b ≡ Frame h → (t ≡ false) × (b ≡ Frame h)
+past : (t : Bool) (a : Answer) (b : Result Header Answer) (h : Header) → cond t (Err a) b ≡ Ok h → (t ≡ false) × (b ≡ Ok h)
 past true a b h e = absurd (let z : ◌≡◌ {A = ℕ} 0 1 = cc in omega arith)
 past false a b h e = (refl, e)
 
 -- a header that was taken has the mode that its number stands for
-with_mode_lem : (file : List ℕ) (m : NumberedMode) (h : Header) → with_mode file m ≡ Frame h
-    → (m ≡ numbered.Known h.params.peak_fit) × (h ≡ header_of file h.params.peak_fit)
+with_mode_lem : (file : List ℕ) (m : Result PeakFitMode Answer) (h : Header) → with_mode file m ≡ Ok h
+    → (m ≡ Ok h.params.peak_fit) × (h ≡ header_of file h.params.peak_fit)
 unfolding header_of
-with_mode_lem file (numbered.Known fit) h e =
+with_mode_lem file (Ok fit) h e =
     let is : h ≡ header_of file fit = cc in
     rw is (refl, refl)
-with_mode_lem file (numbered.Refused a) h e = absurd (let z : ◌≡◌ {A = ℕ} 0 1 = cc in omega arith)
+with_mode_lem file (Err a) h e = absurd (let z : ◌≡◌ {A = ℕ} 0 1 = cc in omega arith)
 
-pub taken_file_is : (limit : ℕ) (file : List ℕ) (h : Header) → Bytes file → read_of limit file ≡ Frame h
+pub taken_file_is : (limit : ℕ) (file : List ℕ) (h : Header) → Bytes file → read_of limit file ≡ Ok h
     → (file ≡ file_of (fields_of file) (drop 20 file)) × (length file ≤ limit)
-    × (mode_numbered (byte_at file 12) ≡ numbered.Known h.params.peak_fit)
+    × (mode_numbered (byte_at file 12) ≡ Ok h.params.peak_fit)
     × (h ≡ header_with (fields_of file) h.params.peak_fit)
 unfolding read_of header_read header_of
 taken_file_is limit file h b e =

@@ -5,41 +5,36 @@ ghost use Rattle.params.specs.Settings.{mode_numbered};
 ghost use Rattle.frame.specs.Fields.{held};
 
 use big_endian::{byte_at, word_at};
-use params::{Answer, NumberedMode, PeakFitMode};
-
-// A field's outcome.
-#[derive(Clone, Copy)]
-pub enum Field {
-    Value(u32),
-    Refused(Answer),
-}
+use params::{Answer, PeakFitMode};
 
 // Byte 0, which must be 1.
-pub fn version(file: &[u8]) -> Field
+#[tactic(auto, unfolding(crate::specs::Fields::held))]
+pub fn version(file: &[u8]) -> Result<u32, Answer>
     ensures { result ≡ held Answer.Version (byte_at file.now 0) 1 }
 {
     let v = byte_at(file, 0);
     if v != 1 {
-        return Field::Refused(Answer::Version);
+        return Err(Answer::Version);
     }
-    Field::Value(v)
+    Ok(v)
 }
 
 // Bytes 1 to 4, which must be the number of bytes that follow them.
-pub fn stated_length(file: &[u8]) -> Field
+#[tactic(auto, unfolding(crate::specs::Fields::held))]
+pub fn stated_length(file: &[u8]) -> Result<u32, Answer>
     requires { 20 ≤ length file.now }
     ensures { result ≡ held Answer.StatedLength (word_at file.now 1) (length file.now - 5) }
 {
     let stated = word_at(file, 1);
     if stated as usize != file.len() - 5 {
-        return Field::Refused(Answer::StatedLength);
+        return Err(Answer::StatedLength);
     }
-    Field::Value(stated)
+    Ok(stated)
 }
 
 // Byte 12, which must be the number of a mode.
-pub fn mode(file: &[u8]) -> NumberedMode
+pub fn mode(file: &[u8]) -> Result<PeakFitMode, Answer>
     ensures { result ≡ mode_numbered (byte_at file.now 12) }
 {
-    PeakFitMode::of_number(byte_at(file, 12))
+    PeakFitMode::try_from(byte_at(file, 12))
 }

@@ -1,12 +1,11 @@
 // The frame file: which bytes are taken, and what they mean.
 #![tactic(auto)]
 
-ghost use Rattle.std.specs.Prelude.{◌≡◌, ◌≤◌, length};
-ghost use Rattle.frame.specs.FrameFile.{header_of, header_read, read_of, Pixels};
+ghost use Rattle.std.specs.Prelude.{◌≡◌};
+ghost use Rattle.frame.specs.FrameFile.{header_of, read_of, Pixels};
 
 use big_endian::{byte_at, float, half_at, word_at};
-use fields::Field;
-use params::{Answer, NumberedMode, PeakFitMode, RadonDetectorParams};
+use params::{Answer, PeakFitMode, RadonDetectorParams};
 
 mod fields;
 
@@ -18,51 +17,29 @@ pub struct Header {
     pub params: RadonDetectorParams,
 }
 
-// What reading a frame file gives.
-#[derive(Clone, Copy)]
-pub enum Reading {
-    Frame(Header),
-    Refused(Answer),
-}
-
 // The bytes before the pixels.
 const HEADER: usize = 20;
 
-// The header of a frame file of at most `limit` bytes, or the lowest of the answers 10 to 14 that applies.
-pub fn read(file: &[u8], limit: usize) -> Reading
+// The header of a frame file of at most `limit` bytes, or the lowest of the answers 10 to 14 that applies: the fields that can be refused are asked
+// one after the other.
+#[tactic(auto, unfolding(crate::specs::FrameFile::read_of, crate::specs::FrameFile::header_read, crate::specs::Fields::held))]
+pub fn read(file: &[u8], limit: usize) -> Result<Header, Answer>
     ensures { result ≡ read_of limit file.now }
 {
     if limit < file.len() {
-        return Reading::Refused(Answer::FileTooLong);
+        return Err(Answer::FileTooLong);
     }
     if file.len() < HEADER {
-        return Reading::Refused(Answer::FileTooShort);
+        return Err(Answer::FileTooShort);
     }
-    read_header(file)
-}
-
-// The fields that can be refused, in their order, each taken apart before the next; then the header.
-fn read_header(file: &[u8]) -> Reading
-    requires { 20 ≤ length file.now }
-    ensures { result ≡ header_read file.now }
-{
-    let version = fields::version(file);
-    if let Field::Refused(answer) = version {
-        return Reading::Refused(answer);
-    }
-    let stated = fields::stated_length(file);
-    if let Field::Refused(answer) = stated {
-        return Reading::Refused(answer);
-    }
-    let mode = fields::mode(file);
-    let fit = match mode {
-        NumberedMode::Known(fit) => fit,
-        NumberedMode::Refused(answer) => return Reading::Refused(answer),
-    };
-    Reading::Frame(header_of(file, fit))
+    fields::version(file)?;
+    fields::stated_length(file)?;
+    let fit = fields::mode(file)?;
+    Ok(header_of(file, fit))
 }
 
 // The header with that mode. No other of its fields can be refused.
+#[tactic(auto, unfolding(crate::specs::FrameFile::header_of))]
 fn header_of(file: &[u8], fit: PeakFitMode) -> Header
     ensures { result ≡ header_of file.now fit }
 {
@@ -86,9 +63,5 @@ fn header_of(file: &[u8], fit: PeakFitMode) -> Header
 pub fn pixels(file: &[u8]) -> &[u8]
     ensures { Pixels file.entry result }
 {
-    let n = file.len();
-    if n < HEADER {
-        return &file[n..];
-    }
-    &file[HEADER..]
+    &file[HEADER.min(file.len())..]
 }

@@ -5,11 +5,11 @@ ghost use Rattle.std.specs.Prelude.{◌≡◌};
 ghost use Rattle.radon.specs.Finder.{lent};
 ghost use Rattle.frame_runner.specs.FileAnswer.{file_outcome, file_buffers};
 
-use frame::Reading;
 use params::Outcome;
 
 // What a frame file is answered, over buffers that the caller lends: the file's own refusal, 10 where it has more than `limit` bytes, or what the
 // finder makes of its frame.
+#[tactic(auto, unfolding(crate::specs::FileAnswer::file_outcome, crate::specs::FileAnswer::file_buffers))]
 pub fn run_frame_file(
     file: &[u8],
     limit: usize,
@@ -31,10 +31,9 @@ pub fn run_frame_file(
         (lent working.old row.old col.old falling.old
         rising.old response.old scratch.old list.old) }
 {
-    let reading = frame::read(file, limit);
-    match reading {
-        Reading::Refused(answer) => Outcome::refusal(answer),
-        Reading::Frame(header) => radon::radon_corners_u8(
+    match frame::read(file, limit) {
+        Err(answer) => Outcome::refusal(answer),
+        Ok(header) => radon::radon_corners_u8(
             frame::pixels(file),
             header.width,
             header.height,

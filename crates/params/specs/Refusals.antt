@@ -1,6 +1,6 @@
 -- Document 01's table of answers, with document 02's 15: which refusal is given, "exactly when", the lowest number first,
 -- but 15 "after 8 and before 9". The chain stands here and nowhere else.
-use Rattle.std.specs.Prelude.{Bool, not, ◌||◌, cond, ℕ, ◌*◌, ltb, leb, eqb, Float}
+use Rattle.std.specs.Prelude.{Bool, not, ◌||◌, cond, ℕ, ◌*◌, ltb, leb, eqb, Float, Result, Ok, Err}
 use Rattle.std.specs.Float.Ieee.{lt, is_nan}
 use Rattle.float.specs.Values.{f0, f1}
 use Rattle.params.specs.declared.answers.Answer.{Answer}
@@ -12,6 +12,10 @@ use Rattle.params.specs.Answers.{number_of}
 -- a where it refuses, and b where it does not
 abbrev pub or_else : Answer → Answer → Answer
 or_else a b = cond (eqb (number_of a) 0) b a
+
+-- what a judge gives: nothing where the answer refuses nothing, and the refusal where it does
+abbrev pub as_result : Answer → Result (Unit {0}) Answer
+as_result a = cond (eqb (number_of a) 0) (Ok tt) (Err a)
 
 -- "width or height over 4,096"
 abbrev pub side_over : ℕ → ℕ → Bool

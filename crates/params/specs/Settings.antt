@@ -1,12 +1,12 @@
 -- Document 01, "Settings and sizes": what a factor or radius counts as, the mode by its number, and the defaults, with document 02's
 -- seventh request; and the border of "Rules of the list", by which frames are judged too small.
-use Rattle.std.specs.Prelude.{cond, ℕ, ◌+◌, max, min, eqb}
+use Rattle.std.specs.Prelude.{cond, ℕ, ◌+◌, max, min, eqb, Result, Ok, Err}
 use Rattle.std.specs.Float.{binary32}
 use Rattle.std.specs.Float.Ieee.{of_bits}
 use Rattle.params.specs.declared.settings.PeakFitMode.TheVariants.{Parabolic, Gaussian}
-use Rattle.params.specs.declared.settings.NumberedMode.{NumberedMode}
-use Rattle.params.specs.declared.settings.NumberedMode.TheVariants.{Known, Refused}
+use Rattle.params.specs.declared.settings.PeakFitMode.{PeakFitMode}
 use Rattle.params.specs.declared.settings.RadonDetectorParams.{RadonDetectorParams}
+use Rattle.params.specs.declared.answers.Answer.{Answer}
 use Rattle.params.specs.declared.answers.Answer.TheVariants.{Mode}
 
 -- "Upsampling 0 counts as 1, and 3 or more as 2"
@@ -22,8 +22,8 @@ abbrev pub border_of : RadonDetectorParams → ℕ
 border_of p = ray_of p.ray_radius + p.nms_radius + 1
 
 -- "The mode is parabolic or Gaussian"; by its number, "mode (0 parabolic, 1 Gaussian)" and "14 mode above 1"
-abbrev pub mode_numbered : ℕ → NumberedMode
-mode_numbered n = cond (eqb n 0) (Known Parabolic) (cond (eqb n 1) (Known Gaussian) (Refused Mode))
+abbrev pub mode_numbered : ℕ → Result PeakFitMode Answer
+mode_numbered n = cond (eqb n 0) (Ok Parabolic) (cond (eqb n 1) (Ok Gaussian) (Err Mode))
 
 -- "ray 4, upsampling 2, blur 1, Gaussian, 0.28, suppression 4, count 2", with the suppression to choose: 0.28 is the nearest f32, 3E8F5C29
 abbrev pub start_up : ℕ → RadonDetectorParams

@@ -1,10 +1,9 @@
 // The numbered answers, and what a call reports with one.
 ghost use Rattle.std.specs.Prelude.{◌≡◌};
 ghost use Rattle.params.specs.Answers.{number_of, no_verdicts, refused};
-ghost use Rattle.params.specs.Refusals.{or_else};
 
-// What a call answers. The numbers are document 01's to 14, and document 02's from there on.
-#[derive(Clone, Copy)]
+// What a call answers. The numbers are document 01's to 14, and document 02's from there on. All but the first two refuse.
+#[derive(Clone, Copy, PartialEq, Eq)]
 pub enum Answer {
     // 0: accepted, all corners fit
     Complete,
@@ -57,37 +56,7 @@ impl Answer {
     pub fn number(self) -> u32
         ensures { result ≡ number_of self }
     {
-        match self {
-            Answer::Complete => 0,
-            Answer::ListFull => 1,
-            Answer::SideTooLong => 2,
-            Answer::ImageLength => 3,
-            Answer::TooManyPixels => 4,
-            Answer::RayRadius => 5,
-            Answer::BlurRadius => 6,
-            Answer::SuppressionRadius => 7,
-            Answer::Threshold => 8,
-            Answer::BufferTooShort => 9,
-            Answer::FileTooLong => 10,
-            Answer::FileTooShort => 11,
-            Answer::Version => 12,
-            Answer::StatedLength => 13,
-            Answer::Mode => 14,
-            Answer::FrameTooSmall => 15,
-            Answer::RecordLength => 16,
-            Answer::RecordVersion => 17,
-            Answer::CornerCount => 18,
-            Answer::NotFinite => 19,
-            Answer::OutputTooShort => 20,
-            Answer::Cameras => 21,
-        }
-    }
-
-    // This answer where it refuses, and the other where it does not.
-    pub fn or_else(self, other: Answer) -> Answer
-        ensures { result ≡ or_else self other }
-    {
-        if self.number() == 0 { other } else { self }
+        self as u32
     }
 }
 

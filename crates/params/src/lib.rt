@@ -11,4 +11,4 @@ pub use coordinates::{Input, Working};
 pub use judges::{
     judge_finder_call, judge_list, judge_map_call, judge_map_settings, judge_room, judge_size,
 };
-pub use settings::{NumberedMode, PeakFitMode, RadonDetectorParams};
+pub use settings::{PeakFitMode, RadonDetectorParams};

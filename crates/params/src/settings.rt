@@ -13,22 +13,17 @@ pub enum PeakFitMode {
     Gaussian,
 }
 
-// What a number stands for where a mode is due.
-#[derive(Clone, Copy)]
-pub enum NumberedMode {
-    Known(PeakFitMode),
-    Refused(Answer),
-}
+impl TryFrom<u32> for PeakFitMode {
+    type Error = Answer;
 
-impl PeakFitMode {
     // The mode of that number. No other number has one: that is answer 14.
-    pub fn of_number(n: u32) -> NumberedMode
+    fn try_from(n: u32) -> Result<PeakFitMode, Answer>
         ensures { result ≡ mode_numbered n }
     {
         match n {
-            0 => NumberedMode::Known(PeakFitMode::Parabolic),
-            1 => NumberedMode::Known(PeakFitMode::Gaussian),
-            _ => NumberedMode::Refused(Answer::Mode),
+            0 => Ok(PeakFitMode::Parabolic),
+            1 => Ok(PeakFitMode::Gaussian),
+            _ => Err(Answer::Mode),
         }
     }
 }
@@ -82,9 +77,10 @@ impl RadonDetectorParams {
     pub fn existing_sites() -> Self
         ensures { result ≡ existing_sites }
     {
-        let mut settings = Self::new();
-        settings.nms_radius = Self::EXISTING_SITES_NMS_RADIUS;
-        settings
+        Self {
+            nms_radius: Self::EXISTING_SITES_NMS_RADIUS,
+            ..Self::new()
+        }
     }
 
     // The upsampling factor that is used: 1 or 2.
@@ -98,11 +94,7 @@ impl RadonDetectorParams {
     pub fn ray_radius_clamped(self) -> u32
         ensures { result ≡ ray_of self.ray_radius }
     {
-        if self.ray_radius < 1 {
-            1
-        } else {
-            self.ray_radius
-        }
+        self.ray_radius.max(1)
     }
 
     // How far candidates stay from every edge: the window, the rays and one pixel for the fit lie inside.
@@ -117,11 +109,5 @@ impl RadonDetectorParams {
 pub fn clamped(up: u32) -> u32
     ensures { result ≡ factor_of up }
 {
-    if up < 1 {
-        return 1;
-    }
-    if MAX_IMAGE_UPSAMPLE < up {
-        return MAX_IMAGE_UPSAMPLE;
-    }
-    up
+    up.clamp(1, MAX_IMAGE_UPSAMPLE)
 }

@@ -1,10 +1,11 @@
 -- The two cases of the finder's promise: a call that is refused, and one whose map and list follow. Assumes nothing.
-use mathlib.Core.Path.{◌≡◌, refl, sym, ap, ◌∙◌}
+use Rattle.std.specs.Prelude.{Ok, Err}
+use mathlib.Core.Path.{◌≡◌, refl, ap, ◌∙◌}
 use mathlib.Core.List.{List}
 use Prim.Native.Nat.{ℕ, ◌*◌, ◌≤◌, ◌<◌, min}
 use native.Mathlib.Nat.{le-min}
 use native.Mathlib.Omega.{arith}
-use borrow.Author.Tests.{eq-eqb, ne_eqb, le-ltb}
+use borrow.Author.Tests.{eq-eqb, le-ltb}
 use lib.ListN.{length}
 use lib.Ieee.{Float, nan}
 use Rattle.grid.proofs.Fill.{length-filled}
@@ -16,7 +17,8 @@ use Rattle.params.specs.declared.answers.Answer.{Answer}
 use Rattle.params.specs.declared.answers.Outcome.{Outcome}
 use Rattle.params.specs.Settings.{factor_of, ray_of}
 use Rattle.params.specs.Answers.{number_of, refused}
-use Rattle.params.specs.Refusals.{or_else, size_refusal, map_refusal, list_refusal, room_refusal, pixels_of, refusal_of, map_refusal_of}
+use Rattle.params.specs.Refusals.{or_else, size_refusal, map_refusal, list_refusal, room_refusal, pixels_of, refusal_of, map_refusal_of, as_result}
+use Rattle.params.proofs.Judged.{ok_zero, err_is}
 use Rattle.params.proofs.Accepted.{both_pass, sizes_pass}
 use Rattle.response.specs.declared.Mapped.{Mapped}
 use Rattle.response.specs.Map.{Buffers as MapBuffers, room_of, side_of, work_of, map_of, mapped, mapped_by, mapped_of, map_buffers_of}
@@ -130,20 +132,17 @@ runs_by w h p image b e = runs_of w h p image b refl refl refl (map_zero w h ima
 
 -- ---- the whole call
 
-module _ (img : List ℕ) (w h : ℕ) (p : RadonDetectorParams) (b : Buffers) {room : ℕ} (r : room ≡ room_of b.map) {a : Answer}
-    (e : a ≡ refusal_of w h (length img) p room) {n : ℕ} (k : n ≡ number_of a) where
-  is-answered : a ≡ answered img w h p b
-  is-answered = e ∙ ap (refusal_of w h (length img) p) r
-
-  pub when_refused : (n ≡ 0 → ⊥) → {o : Outcome} → o ≡ refused a → (o ≡ outcome_of img w h p b) × (b ≡ buffers_of img w h p b)
+module _ (img : List ℕ) (w h : ℕ) (p : RadonDetectorParams) (b : Buffers) where
+  pub when_refused : {a : Answer} → Err a ≡ as_result (answered img w h p b) → {o : Outcome} → o ≡ refused a
+      → (o ≡ outcome_of img w h p b) × (b ≡ buffers_of img w h p b)
   unfolding outcome_of buffers_of
-  when_refused z q =
-      let t = ne_eqb (number_of a) 0 (λ y. z (k ∙ y)) in
-      (rw (← is-answered, t) q, rw (← is-answered, t))
+  when_refused j q =
+      let i = err_is (answered img w h p b) refl j in
+      rw i.1 (q ∙ ap refused i.0, refl)
 
-  module _ (z : n ≡ 0) where
+  module _ (j : Ok tt ≡ as_result (answered img w h p b)) where
     zero_answered : number_of (answered img w h p b) ≡ 0
-    zero_answered = sym (ap number_of is-answered) ∙ sym k ∙ z
+    zero_answered = ok_zero (answered img w h p b) refl j
 
     runs : Runs (factor_of p.image_upsample) (ray_of p.ray_radius) p.response_blur_radius w h (length img) b.map
     runs = runs_by w h p (length img) b.map zero_answered

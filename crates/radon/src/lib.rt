@@ -6,7 +6,6 @@ ghost use Rattle.radon.specs.Finder.{lent, outcome_of, buffers_of};
 
 use params::{Outcome, RadonDetectorParams};
 use response::radon_response_u8;
-use sizes::lesser;
 
 // Each buffer but the list needs an entry for every work pixel; the list takes three numbers a corner: x, y, strength.
 // A frame with no place inside the border is refused: it is not one without corners.
@@ -33,11 +32,10 @@ pub fn radon_corners_u8(
         (lent work.old row.old col.old fall.old rise.old
         resp.old scratch.old list.old) }
 {
-    let tables = lesser(lesser(row.len(), col.len()), lesser(fall.len(), rise.len()));
-    let floats = lesser(resp.len(), scratch.len());
-    let room = lesser(work.len(), lesser(tables, floats));
-    let answer = params::judge_finder_call(w, h, img.len(), p, room);
-    if answer.number() != 0 {
+    let tables = row.len().min(col.len()).min(fall.len().min(rise.len()));
+    let floats = resp.len().min(scratch.len());
+    let room = work.len().min(tables.min(floats));
+    if let Err(answer) = params::judge_finder_call(w, h, img.len(), p, room) {
         return Outcome::refusal(answer);
     }
     let map = radon_response_u8(img, w, h, p, work, row, col, fall, rise, resp, scratch);

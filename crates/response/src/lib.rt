@@ -8,7 +8,6 @@ use blur::box_blur_inplace;
 use cumsums::Tables;
 use params::{Answer, RadonDetectorParams, judge_map_call};
 use rays::{Size, ray_response};
-use sizes::lesser;
 use upsample::upsample;
 
 // What the map's entry reports: its answer and the working image's sides.
@@ -23,8 +22,7 @@ pub struct Mapped {
 fn shortest(i: usize, a: usize, b: usize, c: usize, d: usize, r: usize, s: usize) -> usize
     ensures { result ≡ min i (min (min (min a b) (min c d)) (min r s)) }
 {
-    let tables = lesser(lesser(a, b), lesser(c, d));
-    lesser(i, lesser(tables, lesser(r, s)))
+    i.min(a.min(b).min(c.min(d)).min(r.min(s)))
 }
 
 // The dense response of an image, over buffers that the caller lends: each needs an entry for every working pixel.
@@ -60,8 +58,7 @@ pub fn radon_response_u8(
         response.len(),
         scratch.len(),
     );
-    let answer = judge_map_call(w, h, img.len(), p, room);
-    if answer.number() != 0 {
+    if let Err(answer) = judge_map_call(w, h, img.len(), p, room) {
         return Mapped { answer, w: 0, h: 0 };
     }
     let factor = p.image_upsample_clamped();

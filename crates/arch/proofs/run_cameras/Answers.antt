@@ -1,19 +1,22 @@
 -- `arch::run_cameras` meets its contract: a turn runs one camera over its share, and goes on behind its frame. Assumes nothing.
 use native.Mathlib.Omega.{arith}
-use Rattle.arch.proofs.Cameras.{ran_none, next_in, ran_turn}
+use Rattle.arch_plan.proofs.Frames.{gone_within}
+use Rattle.arch.proofs.Cameras.{ran_none, ran_turn}
 use Rattle.arch.proofs.run_cameras.Goals as goal
 
 pub loop-i-init : goal.loop-i-init
 loop-i-init c =
-    ran_none _ _ _ _ c.refusal-none.ensures c.requires
+    ran_none _ _ _ _ c.refusal-told.ensures c.requires
 
-pub overflow_add-at : goal.overflow_add-at
-overflow_add-at c =
-    omega (arith, next_in _ _ _ _ c.loop-i.invariant c.loop-i-test.true c.gone_in-at.ensures)
+pub slice_bounds-rest-count : goal.slice_bounds-rest-count
+slice_bounds-rest-count c = omega (arith, gone_within _ c.gone_in.ensures)
+
+pub slice_bounds-rest-start : goal.slice_bounds-rest-start
+slice_bounds-rest-start c = omega (arith, gone_within _ c.gone_in.ensures)
 
 pub loop-i-preserved : goal.loop-i-preserved
 loop-i-preserved c =
-    ran_turn _ _ _ _ c.loop-i.invariant c.loop-i-test.true c.run_camera.ensures.answer c.run_camera.ensures.buffers c.gone_in-at.ensures
+    ran_turn _ _ _ _ c.loop-i.invariant c.loop-i-test.true c.run_camera.ensures.answer c.run_camera.ensures.buffers c.gone_in.ensures
     (record {
       working = c.working-1.given;
       row = c.row-1.given;

@@ -5,4 +5,4 @@ use Rattle.arch.proofs.run_cameras.Given as goal
 
 abbrev pub invariant-loop-i : goal.invariant-loop-i
 invariant-loop-i l = Ran l.frames l.size l.cameras (lent l.initial.working l.initial.row l.initial.col l.initial.falling l.initial.rising l.initial.response l.initial.scratch l.initial.list)
-    (lent l.working l.row l.col l.falling l.rising l.response l.scratch l.list) l.told l.at l.i
+    (lent l.working l.row l.col l.falling l.rising l.response l.scratch l.list) l.told l.rest l.i

@@ -1,2 +1,0 @@
--- What the function's proof cites.
-pub mod Cases
