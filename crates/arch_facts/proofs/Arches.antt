@@ -2,6 +2,7 @@
 -- `arch_outcome n frames b` and leaves the buffers `arch_buffers n frames b` (arch/specs/Arch), for every camera count n, every slice `frames` and all
 -- buffers b. Left.antt names what is told and left: of camera i, counted from 0, `told_to`, `share_left`, and `single`, what the like single call is
 -- lent. Assumes nothing.
+use Rattle.std.specs.Prelude.{Result, Ok, Err}
 use mathlib.Core.Path.{◌≡◌, refl, sym, ap, ◌∙◌}
 use mathlib.Core.List.{List, [], ◌++◌, flatten}
 use Prim.Native.Nat.{ℕ, suc, ◌+◌, ◌*◌, ◌/◌, ◌≤◌, ◌<◌}
@@ -22,7 +23,6 @@ use Rattle.detect.specs.Corners.{stride}
 use Rattle.detect.proofs.HigherSettings.{raised}
 use Rattle.detect.proofs.HigherCounts.{HigherCounts}
 use Rattle.frame.specs.declared.Header.{Header}
-use Rattle.frame.specs.declared.Reading.TheVariants.{Frame}
 use Rattle.frame.specs.FrameFile.{read_of}
 use Rattle.radon.specs.Finder.{Buffers, outcome_of, buffers_of}
 use Rattle.radon.proofs.Left.{Accepted as FinderAccepted}
@@ -30,8 +30,6 @@ use Rattle.radon.proofs.Lists.{room_in, ListFiltered, ListOpens}
 use Rattle.radon.proofs.Demands.{pixels, higher_setting, higher_setting_counts, shorter_list, raised_frame_same_map}
 use Rattle.frame_runner.specs.FileAnswer.{outcome_for, file_outcome, buffers_for, file_buffers}
 use Rattle.arch.specs.declared.ArchOutcome.{ArchOutcome}
-use Rattle.arch_plan.specs.declared.due.Due.{Due}
-use Rattle.arch_plan.specs.declared.due.Due.TheVariants.{Refused}
 use Rattle.arch_plan.specs.Plan.{rest_at, due_in, arch_refusal}
 use Rattle.arch.specs.Arch.{left_by, no_frame, arch_outcome, arch_buffers}
 use Rattle.arch_plan.proofs.Frames.{too_short, past_the_end, lies_whole}
@@ -94,7 +92,7 @@ module _ (n : ℕ) (frames : List ℕ) (b : Buffers) (accepted : Accepted n b) w
         ∙ (λ j. (buffers_for (file_is whole j) (single n frames b i) (read_is whole j)).map)
 
     -- by the finder, where the file is read as a frame
-    module _ (h : Header) (read : read_of k file ≡ Frame h) where
+    module _ (h : Header) (read : read_of k file ≡ Ok h) where
       pub camera_is_finder_call :
           (told_to n frames b i ≡ outcome_of (drop 20 file) h.width h.height h.params (single n frames b i))
           × (share_left n frames b i ≡ (buffers_of (drop 20 file) h.width h.height h.params (single n frames b i)).list)
@@ -133,14 +131,14 @@ module _ (n : ℕ) (frames : List ℕ) (b : Buffers) (accepted : Accepted n b) w
 
 module _ (n : ℕ) (frames : List ℕ) (b : Buffers) (accepted : Accepted n b) where
   module _ (i : ℕ) (goes : i < n) where
-    pub not_whole : (a : Answer) → due_in (rest_at frames i) ≡ Refused a → LeavesAll n frames b i a
+    pub not_whole : (a : Answer) → due_in (rest_at frames i) ≡ Err a → LeavesAll n frames b i a
     not_whole a e =
         let c = single n frames b i in
         let rest = rest_at frames i in
         record {
-          told = told_due n frames b accepted i goes ∙ ap (λ (d : Due). outcome_for (file_in rest d) c (read_in rest d)) e;
-          share = share_due n frames b accepted i goes ∙ ap (λ (d : Due). (buffers_for (file_in rest d) c (read_in rest d)).list) e;
-          work = work_due n frames b accepted i goes ∙ ap (λ (d : Due). (buffers_for (file_in rest d) c (read_in rest d)).map) e;
+          told = told_due n frames b accepted i goes ∙ ap (λ (d : Result ℕ Answer). outcome_for (file_in rest d) c (read_in rest d)) e;
+          share = share_due n frames b accepted i goes ∙ ap (λ (d : Result ℕ Answer). (buffers_for (file_in rest d) c (read_in rest d)).list) e;
+          work = work_due n frames b accepted i goes ∙ ap (λ (d : Result ℕ Answer). (buffers_for (file_in rest d) c (read_in rest d)).map) e;
         }
 
     -- "with under five bytes left it answers 11"
@@ -153,7 +151,7 @@ module _ (n : ℕ) (frames : List ℕ) (b : Buffers) (accepted : Accepted n b) w
     runs_past_the_end five l = not_whole StatedLength (sym (past_the_end (rest_at frames i) refl five (omega arith)))
 
   -- "either way the later ones answer 11"
-  pub later_ones_too : (i j : ℕ) (a : Answer) → due_in (rest_at frames i) ≡ Refused a → i < j → j < n → LeavesAll n frames b j FileTooShort
+  pub later_ones_too : (i j : ℕ) (a : Answer) → due_in (rest_at frames i) ≡ Err a → i < j → j < n → LeavesAll n frames b j FileTooShort
   later_ones_too i j a e l m = not_whole j m FileTooShort (later_ones frames j i e l)
 
   -- an entry beyond the camera count reads as a camera for which nothing is left
@@ -289,7 +287,7 @@ pub record Reads (n : ℕ) (frames : List ℕ) (b : Buffers) (i : ℕ) (img : Li
   pub file : List ℕ
   pub whole : WholeAt frames i k file
   pub header : Header
-  pub read : read_of k file ≡ Frame header
+  pub read : read_of k file ≡ Ok header
   pub pixels_are : drop 20 file ≡ img
   pub wide : header.width ≡ w
   pub high : header.height ≡ h

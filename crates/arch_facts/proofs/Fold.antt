@@ -1,5 +1,8 @@
 -- Camera after camera: what the first of them leave of the lengths, the shares and the work buffers, each camera being a single call on the frame
 -- that is due. Assumes nothing.
+use Rattle.std.specs.Prelude.{Result, Ok, Err}
+use Rattle.frame.specs.declared.Header.{Header}
+use Rattle.params.specs.declared.answers.Answer.{Answer}
 use mathlib.Core.Path.{◌≡◌, refl, sym, ap, ◌∙◌}
 use mathlib.Core.List.{List, []}
 use Prim.Native.Nat.{ℕ, zero, suc, ◌+◌, ◌*◌, ◌≤◌, ◌<◌, max}
@@ -10,13 +13,9 @@ use lib.Ieee.{Float}
 use lib.ListN.{length, take, drop, length-take, length-drop}
 use lib.Seq.{length-take-le}
 use Rattle.grid.specs.Fold.{fold}
-use Rattle.frame.specs.declared.Reading.{Reading}
-use Rattle.frame.specs.declared.Reading.TheVariants as reading
 use Rattle.frame.specs.FrameFile.{read_of}
 use Rattle.radon.specs.Finder.{Buffers}
 use Rattle.frame_runner.specs.FileAnswer.{outcome_for, file_outcome, buffers_for, file_buffers}
-use Rattle.arch_plan.specs.declared.due.Due.{Due}
-use Rattle.arch_plan.specs.declared.due.Due.TheVariants.{Whole, Refused}
 use Rattle.arch_plan.specs.Plan.{due_in, rest_at}
 use Rattle.arch.specs.Arch.{camera_outcome, camera_buffers, share_of, lent_to, back_from, left_by, told}
 use Rattle.arch.proofs.Cameras.{SameLengths, same_lengths, lengths_on}
@@ -28,29 +27,29 @@ use Rattle.arch_facts.proofs.Single.{read_long, read_told, read_writes}
 
 -- ---- a camera is a single call: the file that is due and how it reads. One that is not whole reads as a refusal
 
-abbrev pub file_in : List ℕ → Due → List ℕ
-file_in rest (Whole n) = take n rest
-file_in rest (Refused a) = []
+abbrev pub file_in : List ℕ → Result ℕ Answer → List ℕ
+file_in rest (Ok n) = take n rest
+file_in rest (Err a) = []
 
-abbrev pub read_in : List ℕ → Due → Reading
-read_in rest (Whole n) = read_of n (take n rest)
-read_in rest (Refused a) = reading.Refused a
+abbrev pub read_in : List ℕ → Result ℕ Answer → Result Header Answer
+read_in rest (Ok n) = read_of n (take n rest)
+read_in rest (Err a) = Err a
 
-camera_told : (rest : List ℕ) (d : Due) (b : Buffers) → camera_outcome rest d b ≡ outcome_for (file_in rest d) b (read_in rest d)
+camera_told : (rest : List ℕ) (d : Result ℕ Answer) (b : Buffers) → camera_outcome rest d b ≡ outcome_for (file_in rest d) b (read_in rest d)
 unfolding file_outcome
-camera_told rest (Whole n) b = refl
-camera_told rest (Refused a) b = refl
+camera_told rest (Ok n) b = refl
+camera_told rest (Err a) b = refl
 
-camera_left : (rest : List ℕ) (d : Due) (b : Buffers) → camera_buffers rest d b ≡ buffers_for (file_in rest d) b (read_in rest d)
+camera_left : (rest : List ℕ) (d : Result ℕ Answer) (b : Buffers) → camera_buffers rest d b ≡ buffers_for (file_in rest d) b (read_in rest d)
 unfolding file_buffers
-camera_left rest (Whole n) b = refl
-camera_left rest (Refused a) b = refl
+camera_left rest (Ok n) b = refl
+camera_left rest (Err a) b = refl
 
 -- those of camera i
 abbrev pub file_at : List ℕ → ℕ → List ℕ
 file_at frames i = file_in (rest_at frames i) (due_in (rest_at frames i))
 
-abbrev pub read_at : List ℕ → ℕ → Reading
+abbrev pub read_at : List ℕ → ℕ → Result Header Answer
 read_at frames i = read_in (rest_at frames i) (due_in (rest_at frames i))
 
 -- ---- lengths

@@ -1,4 +1,5 @@
 -- What a call for an arch tells and leaves, by name, and the steps to it from the definitions. Assumes nothing.
+use Rattle.std.specs.Prelude.{Ok}
 use mathlib.Core.Path.{◌≡◌, refl, sym, ap, ◌∙◌}
 use mathlib.Core.List.{List}
 use Prim.Native.Nat.{ℕ, suc, ◌*◌, ◌≤◌, ◌<◌, max}
@@ -21,7 +22,6 @@ use Rattle.frame.specs.FrameFile.{read_of}
 use Rattle.radon.specs.Finder.{Buffers}
 use Rattle.frame_runner.specs.FileAnswer.{outcome_for, buffers_for}
 use Rattle.arch.specs.declared.ArchOutcome.{ArchOutcome}
-use Rattle.arch_plan.specs.declared.due.Due.TheVariants.{Whole}
 use Rattle.arch_plan.specs.Plan.{due_in, rest_at, share_size, arch_refusal}
 use Rattle.arch.specs.Arch.{share_of, left_by, told, no_frame, arch_outcome, arch_buffers}
 use Rattle.arch_plan.proofs.Frames.{whole_in}
@@ -79,7 +79,7 @@ written_to n frames b i = listed (told_to n frames b i) (size n b)
 
 -- frame i lies whole in the slice: it has k bytes, and they are those of the file
 pub record WholeAt (frames : List ℕ) (i k : ℕ) (file : List ℕ) : Type 0 where
-  pub due : due_in (rest_at frames i) ≡ Whole k
+  pub due : due_in (rest_at frames i) ≡ Ok k
   pub is : take k (rest_at frames i) ≡ file
 
 module _ {frames file : List ℕ} {i k : ℕ} (whole : WholeAt frames i k file) where

@@ -1,5 +1,8 @@
 -- A single call over two sets of buffers that are as long: it tells the same, writes the same entries and leaves those beyond, and it changes no
 -- length. First the finder's, then that of a file which was read as r. Assumes nothing.
+use Rattle.std.specs.Prelude.{Result, Ok, Err}
+use Rattle.frame.specs.declared.Header.{Header}
+use Rattle.params.specs.declared.answers.Answer.{Answer}
 use mathlib.Core.Path.{◌≡◌, refl, sym, ap, ◌∙◌}
 use mathlib.Core.Bool.{Bool, true, false, cond}
 use mathlib.Core.List.{List}
@@ -21,8 +24,6 @@ use Rattle.params.specs.Answers.{number_of, refused}
 use Rattle.response.specs.Map.{room_of, mapped_by}
 use Rattle.blur.specs.Blur.{scratched}
 use Rattle.detect.specs.Corners.{stride}
-use Rattle.frame.specs.declared.Reading.{Reading}
-use Rattle.frame.specs.declared.Reading.TheVariants.{Frame, Refused}
 use Rattle.radon.specs.Finder.{Buffers, answered, found, outcome_of, buffers_of}
 use Rattle.radon.proofs.Left.{Accepted, left_is}
 use Rattle.radon.proofs.Demands.{refusal_leaves_all, map_beyond_stays, list_beyond_stays, same_answer, same_map}
@@ -152,33 +153,33 @@ module _ (img : List ℕ) (w h : ℕ) (p : RadonDetectorParams) where
 -- ---- that of a file which was read as r
 
 -- W·H where the scratch is used
-abbrev pub blurred_area : Reading → Outcome → ℕ
-blurred_area (Refused a) o = 0
-blurred_area (Frame h) o = in_scratch h.params.response_blur_radius (area o)
+abbrev pub blurred_area : Result Header Answer → Outcome → ℕ
+blurred_area (Err a) o = 0
+blurred_area (Ok h) o = in_scratch h.params.response_blur_radius (area o)
 
 module _ (file : List ℕ) where
-  pub read_long : (r : Reading) (b : Buffers) → SameLengths b (buffers_for file b r)
-  read_long (Refused a) b = same_lengths b
-  read_long (Frame h) b = finder_long (drop 20 file) h.width h.height h.params b
+  pub read_long : (r : Result Header Answer) (b : Buffers) → SameLengths b (buffers_for file b r)
+  read_long (Err a) b = same_lengths b
+  read_long (Ok h) b = finder_long (drop 20 file) h.width h.height h.params b
 
-  pub read_list : (r : Reading) (b c : Buffers) → room_of b.map ≡ room_of c.map → b.list ≡ c.list
+  pub read_list : (r : Result Header Answer) (b c : Buffers) → room_of b.map ≡ room_of c.map → b.list ≡ c.list
       → (buffers_for file b r).list ≡ (buffers_for file c r).list
-  read_list (Refused a) b c rooms e = e
-  read_list (Frame h) b c rooms e = finder_list (drop 20 file) h.width h.height h.params b c rooms e
+  read_list (Err a) b c rooms e = e
+  read_list (Ok h) b c rooms e = finder_list (drop 20 file) h.width h.height h.params b c rooms e
 
-  pub read_refuses : (r : Reading) (b : Buffers) → 1 < number_of (outcome_for file b r).answer
+  pub read_refuses : (r : Result Header Answer) (b : Buffers) → 1 < number_of (outcome_for file b r).answer
       → (outcome_for file b r ≡ refused (outcome_for file b r).answer) × (buffers_for file b r ≡ b)
-  read_refuses (Refused a) b l = (refl, refl)
-  read_refuses (Frame h) b l = finder_refuses (drop 20 file) h.width h.height h.params b l
+  read_refuses (Err a) b l = (refl, refl)
+  read_refuses (Ok h) b l = finder_refuses (drop 20 file) h.width h.height h.params b l
 
   module _ (b c : Buffers) (same : SameLengths b c) where
-    pub read_told : (r : Reading) → outcome_for file b r ≡ outcome_for file c r
-    read_told (Refused a) = refl
-    read_told (Frame h) = same_answer (drop 20 file) h.width h.height h.params b c (rooms_same same) (sym same.list)
+    pub read_told : (r : Result Header Answer) → outcome_for file b r ≡ outcome_for file c r
+    read_told (Err a) = refl
+    read_told (Ok h) = same_answer (drop 20 file) h.width h.height h.params b c (rooms_same same) (sym same.list)
 
-    pub read_writes : (r : Reading)
+    pub read_writes : (r : Result Header Answer)
         → let o = outcome_for file b r in
         Writes (area o) (blurred_area r o) b.map c.map (buffers_for file b r).map (buffers_for file c r).map
         × Wrote (listed o (length b.list)) b.list c.list (buffers_for file b r).list (buffers_for file c r).list
-    read_writes (Refused a) = (writes_none, wrote_none _ (none_listed (length b.list)))
-    read_writes (Frame h) = finder_writes (drop 20 file) h.width h.height h.params b c same
+    read_writes (Err a) = (writes_none, wrote_none _ (none_listed (length b.list)))
+    read_writes (Ok h) = finder_writes (drop 20 file) h.width h.height h.params b c same

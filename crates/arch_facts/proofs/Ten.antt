@@ -1,5 +1,7 @@
 -- "10 isn't given here": a file that is not over its limit does not read as one, the finder does not answer it, and a frame that is not whole is
 -- answered 11 or 13. Assumes nothing.
+use Rattle.std.specs.Prelude.{Result, Ok, Err}
+use Rattle.frame.specs.declared.Header.{Header}
 use mathlib.Core.Path.{◌≡◌, sym, ◌∙◌}
 use mathlib.Core.Bool.{Bool, true, false, not, cond}
 use mathlib.Core.List.{List}
@@ -13,17 +15,13 @@ use Rattle.big_endian.specs.BigEndian.{byte_at, word_at}
 use Rattle.params.specs.declared.answers.Answer.{Answer}
 use Rattle.params.specs.declared.answers.Answer.TheVariants.{FileTooShort, Version, StatedLength, Mode}
 use Rattle.params.specs.declared.settings.PeakFitMode.TheVariants.{Parabolic, Gaussian}
-use Rattle.params.specs.declared.settings.NumberedMode.TheVariants as number
 use Rattle.params.specs.declared.settings.RadonDetectorParams.{RadonDetectorParams}
 use Rattle.params.specs.Answers.{number_of}
 use Rattle.params.specs.Refusals.{or_else, size_refusal, map_refusal, list_refusal, room_refusal, refusal_of}
-use Rattle.frame.specs.declared.Reading.{Reading}
-use Rattle.frame.specs.declared.Reading.TheVariants as reading
 use Rattle.frame.specs.FrameFile.{with_mode, header_read, read_of}
 use Rattle.response.specs.Map.{room_of}
 use Rattle.radon.specs.Finder.{Buffers, answered, outcome_of}
 use Rattle.frame_runner.specs.FileAnswer.{outcome_for}
-use Rattle.arch_plan.specs.declared.due.Due.TheVariants.{Whole, Refused}
 use Rattle.arch_plan.specs.Plan.{due_in}
 use Rattle.arch_facts.proofs.Fold.{read_in}
 
@@ -58,17 +56,17 @@ finder_other img w h p b = by (ℕ_discrete (number_of (answered img w h p b)) 0
 -- ---- a reading
 
 -- the number of its refusal, where it is one
-abbrev pub number_read : Reading → ℕ
-number_read (reading.Refused a) = number_of a
-number_read (reading.Frame h) = 0
+abbrev pub number_read : Result Header Answer → ℕ
+number_read (Err a) = number_of a
+number_read (Ok h) = 0
 
-pub record NotTen (r : Reading) : Type 0 where
+pub record NotTen (r : Result Header Answer) : Type 0 where
   pub never : number_read r ≡ 10 → ⊥
 
 -- the tests of a file in their order, behind the one for 10
 tests_not_ten : (file : List ℕ) (short version stated parabolic gaussian : Bool)
-    → NotTen (cond short (reading.Refused FileTooShort) (cond version (reading.Refused Version) (cond stated (reading.Refused StatedLength)
-    (with_mode file (cond parabolic (number.Known Parabolic) (cond gaussian (number.Known Gaussian) (number.Refused Mode)))))))
+    → NotTen (cond short (Err FileTooShort) (cond version (Err Version) (cond stated (Err StatedLength)
+    (with_mode file (cond parabolic (Ok Parabolic) (cond gaussian (Ok Gaussian) (Err Mode)))))))
 tests_not_ten file true version stated parabolic gaussian = record { never = λ e. omega arith }
 tests_not_ten file false true stated parabolic gaussian = record { never = λ e. omega arith }
 tests_not_ten file false false true parabolic gaussian = record { never = λ e. omega arith }
@@ -78,7 +76,7 @@ tests_not_ten file false false false false false = record { never = λ e. omega 
 
 -- where a file is not over the limit, the limit is not asked for
 read_within : (limit : ℕ) (file : List ℕ) → length file ≤ limit
-    → read_of limit file ≡ cond (ltb (length file) 20) (reading.Refused FileTooShort) (header_read file)
+    → read_of limit file ≡ cond (ltb (length file) 20) (Err FileTooShort) (header_read file)
 unfolding read_of
 read_within limit file within = rw (le-ltb limit (length file) within)
 
@@ -92,9 +90,9 @@ read_not_ten limit file within =
     rw (read_within limit file within)
     (tests_not_ten file (ltb (length file) 20) (not (eqb (byte_at file 0) 1)) (not (eqb (word_at file 1) (length file - 5))) (eqb mode 0) (eqb mode 1))
 
-pub told_not_ten : (file : List ℕ) (b : Buffers) (r : Reading) → NotTen r → number_of (outcome_for file b r).answer ≡ 10 → ⊥
-told_not_ten file b (reading.Refused a) z e = z.never e
-told_not_ten file b (reading.Frame h) z e = (finder_other (drop 20 file) h.width h.height h.params b).never e
+pub told_not_ten : (file : List ℕ) (b : Buffers) (r : Result Header Answer) → NotTen r → number_of (outcome_for file b r).answer ≡ 10 → ⊥
+told_not_ten file b (Err a) z e = z.never e
+told_not_ten file b (Ok h) z e = (finder_other (drop 20 file) h.width h.height h.params b).never e
 
 -- ---- a camera's
 
@@ -102,7 +100,7 @@ pub due_not_ten : (rest : List ℕ) → NotTen (read_in rest (due_in rest))
 unfolding due_in
 due_not_ten rest = by (ltb (length rest) 5) (ltb (length rest) (5 + word_at rest 1))
   where
-    by : (s t : Bool) → NotTen (read_in rest (cond s (Refused FileTooShort) (cond t (Refused StatedLength) (Whole (5 + word_at rest 1)))))
+    by : (s t : Bool) → NotTen (read_in rest (cond s (Err FileTooShort) (cond t (Err StatedLength) (Ok (5 + word_at rest 1)))))
     by true t = record { never = λ e. omega arith }
     by false true = record { never = λ e. omega arith }
     by false false =

@@ -1,5 +1,6 @@
 -- What is printed for a file depends on the file alone: not on what the buffers held before, and on no byte past the first 2,325.
 -- Assumes nothing.
+use Rattle.std.specs.Prelude.{Result, Ok, Err}
 use mathlib.Core.Path.{◌≡◌, refl, sym, ap, ◌∙◌}
 use mathlib.Core.Logic.{◌⊎◌, inl, inr}
 use mathlib.Core.List.{List, [], ◌∷◌}
@@ -14,11 +15,11 @@ use Rattle.grid.specs.Over.{written}
 use Rattle.grid.proofs.Over.{length_over}
 use Rattle.grid.proofs.Part.{part_taken}
 use Rattle.float.specs.Values.{f0}
+use Rattle.params.specs.declared.answers.Answer.{Answer}
 use Rattle.params.specs.declared.answers.Outcome.{Outcome}
 use Rattle.params.specs.declared.settings.RadonDetectorParams.{RadonDetectorParams}
 use Rattle.params.specs.Answers.{number_of, refused}
-use Rattle.frame.specs.declared.Reading.{Reading}
-use Rattle.frame.specs.declared.Reading.TheVariants.{Frame, Refused}
+use Rattle.frame.specs.declared.Header.{Header}
 use Rattle.frame.specs.FrameFile.{read_of}
 use Rattle.lines.specs.Printed.{refused_line, corner_lines, stored, printed}
 use Rattle.response.specs.Map.{room_of}
@@ -105,10 +106,10 @@ module _ (img : List ℕ) (w h : ℕ) (p : RadonDetectorParams) (b c : Buffers) 
 -- ---- the program's
 
 module _ (file : List ℕ) (b c : Buffers) (same : Alike b c) where
-  lines_for : (r : Reading)
+  lines_for : (r : Result Header Answer)
       → printed 3 (outcome_for file b r) (buffers_for file b r).list ≡ printed 3 (outcome_for file c r) (buffers_for file c r).list
-  lines_for (Refused a) = refused-same (refused a) b.list c.list refl same.list
-  lines_for (Frame h) = finder_lines (drop 20 file) h.width h.height h.params b c same
+  lines_for (Err a) = refused-same (refused a) b.list c.list refl same.list
+  lines_for (Ok h) = finder_lines (drop 20 file) h.width h.height h.params b c same
 
   -- "What a buffer held before the call changes no answer and no written number": nor any line
   pub same_lines : lines_over b file ≡ lines_over c file

@@ -41,6 +41,7 @@ pub fn run_with_room(file: &[u8], list: &mut [f32]) -> Outcome
 // What the program answers to what it has read, with a list for 256 corners. The input has one byte more than the longest frame file, so that a
 // longer one is seen to be too long. The lines are fixed by the bytes that were read; and where those are as much of a file as the array takes, by
 // the whole file.
+// An array with a count beside it: by its type no caller has less room, and with a byte less `whole` would be false.
 pub fn answer(input: &[u8; 2325], got: usize, list: &mut [f32; 768]) -> Outcome
     ensures answer { result ≡ file_outcome limit (take got input.now) (blank 2304 list.old) }
     ensures list { list.new ≡ (file_buffers limit (take got input.now) (blank 2304 list.old)).list }
@@ -48,15 +49,5 @@ pub fn answer(input: &[u8; 2325], got: usize, list: &mut [f32; 768]) -> Outcome
     ensures whole { (file : List ℕ) → take (length input.now) file ≡ take got input.now
         → printed 3 result list.new ≡ lines_of file }
 {
-    run_with_room(first(input, got), list)
-}
-
-// The bytes that were read.
-fn first(input: &[u8], got: usize) -> &[u8]
-    ensures { result.now ≡ take got input.now }
-{
-    if got < input.len() {
-        return &input[..got];
-    }
-    input
+    run_with_room(&input[..got.min(input.len())], list)
 }

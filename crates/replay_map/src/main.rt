@@ -1,7 +1,6 @@
 // Replays frames through the map's entry and compares working image, tables, response and scratch to the bit.
 #![tactic(auto)]
 
-use frame::Reading;
 use replay::{Compared, Walk};
 use response::Mapped;
 use std::io;
@@ -39,8 +38,7 @@ fn record(s: &[u8], at: usize) -> Compared {
 
 // The map of a file, over the program's buffers.
 fn mapped(file: &[u8], s: &[u8], at: usize) -> Compared {
-    let reading = frame::read(file, LIMIT);
-    let Reading::Frame(header) = reading else {
+    let Ok(header) = frame::read(file, LIMIT) else {
         return refused(s);
     };
     let mut working = [0u8; 2304];

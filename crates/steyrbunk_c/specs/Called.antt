@@ -1,10 +1,8 @@
 -- What a call's numbers mean, and what it reports in numbers. Corners, map and buffers are those of the crates beneath.
-use Rattle.std.specs.Prelude.{List, [], ◌∷◌, ℕ, Float}
+use Rattle.std.specs.Prelude.{List, [], ◌∷◌, ℕ, Float, Result, Ok, Err}
 use Rattle.params.specs.declared.settings.PeakFitMode.{PeakFitMode}
-use Rattle.params.specs.declared.settings.NumberedMode.{NumberedMode}
-use Rattle.params.specs.declared.settings.NumberedMode.TheVariants.{Known, Refused}
 use Rattle.params.specs.declared.settings.RadonDetectorParams.{RadonDetectorParams}
-use Rattle.params.specs.declared.answers.Answer.TheVariants.{Mode}
+use Rattle.params.specs.declared.answers.Answer.{Answer}
 use Rattle.params.specs.declared.answers.Verdicts.{Verdicts}
 use Rattle.params.specs.declared.answers.Outcome.{Outcome}
 use Rattle.params.specs.Settings.{defaults, mode_numbered}
@@ -12,18 +10,16 @@ use Rattle.params.specs.Answers.{number_of, refused}
 use Rattle.response.specs.declared.Mapped.{Mapped}
 use Rattle.detect.specs.Detected.{peaks_outcome, list_of}
 use Rattle.radon.specs.Finder.{Buffers, outcome_of, buffers_of}
-use Rattle.steyrbunk_c.specs.declared.Settings.{Settings}
-use Rattle.steyrbunk_c.specs.declared.Settings.TheVariants.{Given, NoSuchMode}
 
 -- ---- numbers in
 
 -- a mode that is known, or "14 mode above 1"
-abbrev pub settings_by : (PeakFitMode → RadonDetectorParams) → NumberedMode → Settings
-settings_by p (Known fit) = Given (p fit)
-settings_by p (Refused answer) = NoSuchMode
+abbrev pub settings_by : (PeakFitMode → RadonDetectorParams) → Result PeakFitMode Answer → Result RadonDetectorParams Answer
+settings_by p (Ok fit) = Ok (p fit)
+settings_by p (Err answer) = Err answer
 
 -- the settings in the order of their record
-abbrev pub settings_of : ℕ → ℕ → ℕ → ℕ → Float → ℕ → ℕ → Settings
+abbrev pub settings_of : ℕ → ℕ → ℕ → ℕ → Float → ℕ → ℕ → Result RadonDetectorParams Answer
 settings_of ray up blur fit threshold nms least =
     settings_by (λ m. record {
       ray_radius = ray;
@@ -82,18 +78,18 @@ map_told m = map_reported (number_of m.answer) m.w m.h
 
 -- ---- what a call comes to: the finder's or the list's own, or answer 14, which comes before 2 to 9 and 15, with zeros, and "no buffer changes"
 
-abbrev pub called_outcome : Settings → List ℕ → ℕ → ℕ → Buffers → Outcome
-called_outcome (Given p) img w h b = outcome_of img w h p b
-called_outcome NoSuchMode img w h b = refused Mode
+abbrev pub called_outcome : Result RadonDetectorParams Answer → List ℕ → ℕ → ℕ → Buffers → Outcome
+called_outcome (Ok p) img w h b = outcome_of img w h p b
+called_outcome (Err answer) img w h b = refused answer
 
-abbrev pub called_buffers : Settings → List ℕ → ℕ → ℕ → Buffers → Buffers
-called_buffers (Given p) img w h b = buffers_of img w h p b
-called_buffers NoSuchMode img w h b = b
+abbrev pub called_buffers : Result RadonDetectorParams Answer → List ℕ → ℕ → ℕ → Buffers → Buffers
+called_buffers (Ok p) img w h b = buffers_of img w h p b
+called_buffers (Err answer) img w h b = b
 
-abbrev pub called_peaks : Settings → ℕ → ℕ → List Float → List ℕ → ℕ → Outcome
-called_peaks (Given p) w h response image len = peaks_outcome p w h response image len
-called_peaks NoSuchMode w h response image len = refused Mode
+abbrev pub called_peaks : Result RadonDetectorParams Answer → ℕ → ℕ → List Float → List ℕ → ℕ → Outcome
+called_peaks (Ok p) w h response image len = peaks_outcome p w h response image len
+called_peaks (Err answer) w h response image len = refused answer
 
-abbrev pub called_list : Settings → ℕ → ℕ → List Float → List ℕ → List Float → List Float
-called_list (Given p) w h response image old = list_of p w h response image old
-called_list NoSuchMode w h response image old = old
+abbrev pub called_list : Result RadonDetectorParams Answer → ℕ → ℕ → List Float → List ℕ → List Float → List Float
+called_list (Ok p) w h response image old = list_of p w h response image old
+called_list (Err answer) w h response image old = old

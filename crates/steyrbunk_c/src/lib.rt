@@ -4,8 +4,7 @@
 // was never passed.
 #![tactic(auto)]
 
-ghost use Rattle.std.specs.Prelude.{◌≡◌, ◌+◌, ◌≤◌, length};
-ghost use Rattle.std.proofs.lemmas.List.Edits.{sets};
+ghost use Rattle.std.specs.Prelude.{◌≡◌, length};
 ghost use Rattle.grid.specs.Each.{each};
 ghost use Rattle.scalar.specs.Log.{log_of, terms, high};
 ghost use Rattle.scalar.specs.Root.{root_of};
@@ -19,31 +18,29 @@ ghost use Rattle.steyrbunk_c.specs.Called.{called_outcome, called_buffers, calle
 ghost use Rattle.steyrbunk_c.specs.OrNan.{root_or_nan, log_or_nan};
 
 use arch::run_arch;
-use params::{Answer, NumberedMode, Outcome, PeakFitMode, RadonDetectorParams, Verdicts};
+use params::{Answer, Outcome, PeakFitMode, RadonDetectorParams, Verdicts};
 use radon::radon_corners_u8;
 use record::{read_record, write_record};
 use response::radon_response_u8;
 use scalar::{Log, Root};
 
-// The settings that a call's numbers give.
-#[derive(Clone, Copy)]
-enum Settings {
-    Given(RadonDetectorParams),
-    // The number of the mode is above 1.
-    NoSuchMode,
-}
-
-fn settings_of(ray: u32, up: u32, blur: u32, fit: u32, rel: f32, nms: u32, least: u32) -> Settings
+// The settings that a call's numbers give, or answer 14, where the number of the mode is above 1.
+fn settings_of(
+    ray: u32,
+    up: u32,
+    blur: u32,
+    fit: u32,
+    rel: f32,
+    nms: u32,
+    least: u32,
+) -> Result<RadonDetectorParams, Answer>
     ensures { result ≡ settings_of ray up blur fit rel nms least }
 {
-    let NumberedMode::Known(peak_fit) = PeakFitMode::of_number(fit) else {
-        return Settings::NoSuchMode;
-    };
-    Settings::Given(RadonDetectorParams {
+    Ok(RadonDetectorParams {
         ray_radius: ray,
         image_upsample: up,
         response_blur_radius: blur,
-        peak_fit,
+        peak_fit: PeakFitMode::try_from(fit)?,
         threshold_rel: rel,
         nms_radius: nms,
         min_cluster_size: least,
@@ -54,24 +51,24 @@ fn settings_of(ray: u32, up: u32, blur: u32, fit: u32, rel: f32, nms: u32, least
 fn tell(o: Outcome, count: &mut usize, w: &mut usize, h: &mut usize) -> u32
     ensures { reported result count.new w.new h.new ≡ told o }
 {
-    let answer = o.answer;
     *count = o.count;
     *w = o.w;
     *h = o.h;
-    answer.number()
+    o.answer.number()
 }
 
-// The six counts, from `at` on.
-fn put_verdicts(v: Verdicts, out: &mut [usize], at: usize)
-    requires { at + 6 ≤ length out.old }
-    ensures { out.new ≡ sets out.old at (verdict_numbers v) }
+// The six counts.
+fn verdict_numbers(v: Verdicts) -> [usize; 6]
+    ensures { result ≡ verdict_numbers v }
 {
-    out[at] = v.not_above;
-    out[at + 1] = v.beaten;
-    out[at + 2] = v.too_few;
-    out[at + 3] = v.too_flat;
-    out[at + 4] = v.wrong_curvature;
-    out[at + 5] = v.kept;
+    [
+        v.not_above,
+        v.beaten,
+        v.too_few,
+        v.too_flat,
+        v.wrong_curvature,
+        v.kept,
+    ]
 }
 
 // The finder: map and list of an image in one call.
@@ -114,27 +111,31 @@ pub extern "C" fn steyrbunk_corners(
         (lent work.old row.old col.old fall.old rise.old
         resp.old scratch.old out.old) }
 {
-    let Settings::Given(p) = settings_of(ray, up, blur, fit, threshold, nms, least) else {
-        let none = Outcome::refusal(Answer::Mode);
-        put_verdicts(none.verdicts, verdicts, 0);
-        return tell(none, count, ww, wh);
+    let o = match settings_of(ray, up, blur, fit, threshold, nms, least) {
+        Ok(p) => radon_corners_u8(img, w, h, p, work, row, col, fall, rise, resp, scratch, out),
+        Err(answer) => Outcome::refusal(answer),
     };
-    let o = radon_corners_u8(img, w, h, p, work, row, col, fall, rise, resp, scratch, out);
-    put_verdicts(o.verdicts, verdicts, 0);
+    *verdicts = verdict_numbers(o.verdicts);
     tell(o, count, ww, wh)
 }
 
-// What a camera is told, from `at` on: answer, count, W and H, and the six counts.
-fn tell_camera(o: Outcome, told: &mut [usize], at: usize)
-    requires { at + 10 ≤ length told.old }
-    ensures { told.new ≡ sets told.old at (camera_numbers o) }
+// What a camera is told: answer, count, W and H, and the six counts.
+fn camera_numbers(o: Outcome) -> [usize; 10]
+    ensures { result ≡ camera_numbers o }
 {
-    let answer = o.answer;
-    told[at] = answer.number() as usize;
-    told[at + 1] = o.count;
-    told[at + 2] = o.w;
-    told[at + 3] = o.h;
-    put_verdicts(o.verdicts, told, at + 4);
+    let counts = o.verdicts;
+    [
+        o.answer.number() as usize,
+        o.count,
+        o.w,
+        o.h,
+        counts.not_above,
+        counts.beaten,
+        counts.too_few,
+        counts.too_flat,
+        counts.wrong_curvature,
+        counts.kept,
+    ]
 }
 
 // What the cameras of an arch are told, ten numbers each.
@@ -142,8 +143,9 @@ fn tell_cameras(cameras: [Outcome; 8], told: &mut [usize])
     requires { length told.old ≡ 80 }
     ensures { told.new ≡ each camera_numbers cameras }
 {
-    for i in 0..8 {
-        tell_camera(cameras[i], told, 10 * i);
+    for (i, camera) in cameras.iter().enumerate() {
+        let a = 10 * i;
+        told[a..a + 10].copy_from_slice(&camera_numbers(*camera));
     }
 }
 
@@ -177,10 +179,8 @@ pub extern "C" fn steyrbunk_run_arch(
     let o = run_arch(
         cameras, frames, work, row, col, fall, rise, resp, scratch, out,
     );
-    let answer = o.answer;
-    let each = o.cameras;
-    tell_cameras(each, told);
-    answer.number()
+    tell_cameras(o.cameras, told);
+    o.answer.number()
 }
 
 // The settings for the map's own entry.
@@ -229,10 +229,9 @@ pub extern "C" fn steyrbunk_response(
 {
     let p = map_settings(ray, up, blur);
     let m = radon_response_u8(img, w, h, p, work, row, col, fall, rise, resp, scratch);
-    let answer = m.answer;
     *ww = m.w;
     *wh = m.h;
-    answer.number()
+    m.answer.number()
 }
 
 // The list of a map over its work image, both w wide and h high.
@@ -262,16 +261,13 @@ pub extern "C" fn steyrbunk_detect_peaks(
     ensures list { list.new ≡ called_list (settings_of ray up blur fit threshold nms least) w h
         response.now image.now list.old }
 {
-    let Settings::Given(p) = settings_of(ray, up, blur, fit, threshold, nms, least) else {
-        *count = 0;
-        put_verdicts(Verdicts::none(), verdicts, 0);
-        return Answer::Mode.number();
+    let found = match settings_of(ray, up, blur, fit, threshold, nms, least) {
+        Ok(p) => detect::detect_peaks_from_radon(response, image, w, h, p, list),
+        Err(answer) => Outcome::refusal(answer),
     };
-    let o = detect::detect_peaks_from_radon(response, image, w, h, p, list);
-    let answer = o.answer;
-    *count = o.count;
-    put_verdicts(o.verdicts, verdicts, 0);
-    answer.number()
+    *count = found.count;
+    *verdicts = verdict_numbers(found.verdicts);
+    found.answer.number()
 }
 
 // The record of a list, with the sides of its working image.
