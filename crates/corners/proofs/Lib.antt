@@ -1,3 +1,2 @@
 -- What the functions' proofs cite.
-pub mod Reading
 pub mod Printing

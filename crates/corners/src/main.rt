@@ -2,14 +2,14 @@
 // What cannot be read or written leaves a word on standard error, and the status is then 1.
 #![tactic(auto)]
 
-ghost use Rattle.std.specs.Prelude.{◌≡◌, [], get_or, length, take, OnOk, IfOk, IfErr, IfSome};
+ghost use Rattle.std.specs.Prelude.{[], get_or, OnOk, IfErr, IfSome};
 ghost use Rattle.std.specs.List.{concat};
-ghost use Rattle.std.specs.Io.{ReadsAtMost};
 ghost use Rattle.std.specs.Io.KnownBytes.{Appends, Keeps};
 ghost use Rattle.lines.specs.Printed.{printed};
 ghost use Rattle.program.specs.Program.{lines_of};
 ghost use Rattle.corners.specs.Faults.{IsReading};
 
+use input::read_full;
 use params::Outcome;
 use std::io::{Read, Write};
 use std::process::ExitCode;
@@ -49,27 +49,10 @@ fn run<R: Read, W: Write>(from: &mut R, to: &mut W) -> Result<(), Fault>
     ensures unread { IfErr result (λ fault. IsReading fault → Keeps (W.contents to.old) (W.contents to.new)) }
 {
     let mut input = [0u8; 2325];
-    let got = read(from, &mut input).map_err(Fault::Reading)?;
+    let got = read_full(from, &mut input).map_err(Fault::Reading)?;
     let mut list = [0.0f32; 768];
     let outcome = program::answer(&input, got, &mut list);
     print(to, outcome, &list).map_err(Fault::Writing)
-}
-
-// The input up to its end, or as much as there is room for. Where a read fails, what came before it does not count.
-fn read<R: Read>(from: &mut R, input: &mut [u8]) -> io::Result<usize>
-    ensures within { ReadsAtMost result input.new }
-    ensures front { IfOk result (λ n. IfSome (R.remaining from.old)
-        (λ file. take (length input.new) file ≡ take n input.new)) }
-{
-    let mut done: usize = 0;
-    while done < input.len() {
-        let more = from.read(&mut input[done..])?;
-        if more == 0 {
-            return Ok(done);
-        }
-        done += more;
-    }
-    Ok(done)
 }
 
 // Every line; or those before the first that cannot be written.

@@ -1,40 +1,21 @@
--- The entries of a buffer against those of a list, by what the buffer holds.
-use Rattle.std.specs.Prelude.{List, ℕ, zero, suc, ◌+◌, min, Float, length}
-use Rattle.vectors.specs.Vectors.{byte_at, word_at, float_at, entry_at}
+-- The entries of a buffer against those of a list.
+use Rattle.std.specs.Prelude.{List, ℕ, zero, suc, ◌+◌, min, length}
+use Rattle.vectors.specs.Vectors.{word_at}
 use Rattle.vectors.specs.Counts.{sum, differs}
 use Rattle.replay.specs.declared.entries.Compared.{Compared}
-use Rattle.replay.specs.declared.entries.Kind.{Kind}
-use Rattle.replay.specs.declared.entries.Kind.TheVariants.{Bytes, Words, Floats}
 
--- how many bytes of a list an entry takes, and what they say
-abbrev pub size_of : Kind → ℕ
-size_of Bytes = 1
-size_of Words = 4
-size_of Floats = 4
-
-abbrev pub listed_of : Kind → List ℕ → ℕ → ℕ
-listed_of Bytes s at = byte_at s at
-listed_of Words s at = word_at s at
-listed_of Floats s at = word_at s at
-
--- an entry of the buffer of that kind
-abbrev pub entry_of : Kind → List ℕ → List ℕ → List Float → ℕ → ℕ
-entry_of Bytes b w f i = byte_at b i
-entry_of Words b w f i = entry_at w i
-entry_of Floats b w f i = float_at f i
-
--- one entry more, the i-th
-abbrev pub one_more : Kind → List ℕ → List ℕ → List ℕ → List Float → ℕ → Compared → Compared
-one_more k s b w f i c = record {
-  next = min (c.next + size_of k) (length s);
-  wrong = sum c.wrong (differs (entry_of k b w f i) (listed_of k s c.next));
+-- One entry more, the i-th. An entry takes `size` bytes of a list; `entry` is what the buffer has there, `listed` what the list says at a place.
+abbrev pub one_more : ℕ → (ℕ → ℕ) → (List ℕ → ℕ → ℕ) → List ℕ → ℕ → Compared → Compared
+one_more size entry listed s i c = record {
+  next = min (c.next + size) (length s);
+  wrong = sum c.wrong (differs (entry i) (listed s c.next));
   values = suc i;
 }
 
 -- the first n entries of a buffer against the n that stand in the list s from a place on
-unfoldable pub compared_of : Kind → List ℕ → ℕ → List ℕ → List ℕ → List Float → ℕ → Compared
-compared_of k s at b w f zero = record { next = at; wrong = 0; values = 0 }
-compared_of k s at b w f (suc i) = one_more k s b w f i (compared_of k s at b w f i)
+unfoldable pub compared_of : ℕ → (ℕ → ℕ) → (List ℕ → ℕ → ℕ) → List ℕ → ℕ → ℕ → Compared
+compared_of size entry listed s at zero = record { next = at; wrong = 0; values = 0 }
+compared_of size entry listed s at (suc i) = one_more size entry listed s i (compared_of size entry listed s at i)
 
 -- what was compared before, and what after it
 abbrev pub both : Compared → Compared → Compared

@@ -1,8 +1,9 @@
 // Entries of a buffer against those of a list: bytes, words or floats.
-ghost use Rattle.std.specs.Prelude.{◌≡◌, []};
-ghost use Rattle.replay.specs.Entries.{size_of, listed_of, entry_of, compared_of, both, sides_of};
-ghost use Rattle.replay.specs.declared.entries.Kind.TheVariants as kind;
+ghost use Rattle.std.specs.Prelude.{◌≡◌, ℕ, List};
+ghost use Rattle.vectors.specs.Vectors.{byte_at, word_at, float_at, entry_at};
+ghost use Rattle.replay.specs.Entries.{compared_of, both, sides_of};
 
+use std::mem::size_of;
 use vectors::{byte, differ, float_at, plus, skip, word, word_at};
 
 // What was compared, and the place behind it: how many values disagree, of how many.
@@ -13,22 +14,106 @@ pub struct Compared {
     pub values: usize,
 }
 
-// What a buffer holds: a byte of it stands in a list as a byte, any other as four.
-#[derive(Clone, Copy)]
-pub enum Kind {
-    Bytes,
-    Words,
-    Floats,
+impl Compared {
+    // What was compared before, and what after it.
+    pub fn then(self, after: Compared) -> Compared
+        ensures { result ≡ both self after }
+    {
+        Compared {
+            next: after.next,
+            wrong: plus(self.wrong, after.wrong),
+            values: plus(self.values, after.values),
+        }
+    }
 }
 
-// What was compared before, and what after it.
-pub fn then(a: Compared, b: Compared) -> Compared
-    ensures { result ≡ both a b }
+// What a buffer holds: how an entry of it is read as a number, and how a list states one.
+pub trait Entry: Sized {
+    ghost entry_of: { List Self → ℕ → ℕ };
+
+    ghost listed_of: { List ℕ → ℕ → ℕ };
+
+    ghost SIZE: { ℕ };
+
+    // How many bytes an entry takes in a list.
+    const SIZE: usize;
+
+    fn entry(buffer: &[Self], i: usize) -> u64
+        ensures { result ≡ entry_of buffer.now i };
+
+    fn listed(s: &[u8], at: usize) -> u64
+        ensures { result ≡ listed_of s.now at };
+}
+
+impl Entry for u8 {
+    ghost entry_of = { byte_at };
+
+    ghost listed_of = { byte_at };
+
+    ghost SIZE = { 1 };
+
+    const SIZE: usize = size_of::<u8>();
+
+    fn entry(buffer: &[u8], i: usize) -> u64 {
+        byte(buffer, i)
+    }
+
+    fn listed(s: &[u8], at: usize) -> u64 {
+        byte(s, at)
+    }
+}
+
+impl Entry for u32 {
+    ghost entry_of = { entry_at };
+
+    ghost listed_of = { word_at };
+
+    ghost SIZE = { 4 };
+
+    const SIZE: usize = size_of::<u32>();
+
+    fn entry(buffer: &[u32], i: usize) -> u64 {
+        word_at(buffer, i)
+    }
+
+    fn listed(s: &[u8], at: usize) -> u64 {
+        word(s, at)
+    }
+}
+
+impl Entry for f32 {
+    ghost entry_of = { float_at };
+
+    ghost listed_of = { word_at };
+
+    ghost SIZE = { 4 };
+
+    const SIZE: usize = size_of::<f32>();
+
+    fn entry(buffer: &[f32], i: usize) -> u64 {
+        float_at(buffer, i)
+    }
+
+    fn listed(s: &[u8], at: usize) -> u64 {
+        word(s, at)
+    }
+}
+
+// The first n entries of a buffer against the n that stand in a list from a place on.
+pub fn compare<T: Entry>(s: &[u8], at: usize, buffer: &[T], n: usize) -> Compared
+    ensures { result ≡ compared_of T.SIZE (T.entry_of buffer.now) T.listed_of s.now at n }
 {
+    let mut next = at;
+    let mut wrong: usize = 0;
+    for i in 0..n {
+        let found = T::entry(buffer, i);
+        wrong = plus(wrong, differ(found, T::listed(s, next)));
+        next = skip(s, next, T::SIZE);
+    }
     Compared {
-        next: b.next,
-        wrong: plus(a.wrong, b.wrong),
-        values: plus(a.values, b.values),
+        next,
+        wrong,
+        values: n,
     }
 }
 
@@ -42,81 +127,5 @@ pub fn sides(s: &[u8], at: usize, answer: u64, w: u64, h: u64) -> Compared
         next: skip(s, second, 4),
         wrong: plus(wrong, differ(answer, 0)),
         values: 3,
-    }
-}
-
-pub fn bytes(s: &[u8], at: usize, t: &[u8], n: usize) -> Compared
-    ensures { result ≡ compared_of kind.Bytes s.now at t.now [] [] n }
-{
-    entries(Kind::Bytes, s, at, t, &[], &[], n)
-}
-
-pub fn words(s: &[u8], at: usize, t: &[u32], n: usize) -> Compared
-    ensures { result ≡ compared_of kind.Words s.now at [] t.now [] n }
-{
-    entries(Kind::Words, s, at, &[], t, &[], n)
-}
-
-pub fn floats(s: &[u8], at: usize, t: &[f32], n: usize) -> Compared
-    ensures { result ≡ compared_of kind.Floats s.now at [] [] t.now n }
-{
-    entries(Kind::Floats, s, at, &[], &[], t, n)
-}
-
-// The first n entries of a buffer against the n that stand in a list from a place on. The buffer is the one of its kind; the other two are empty.
-fn entries(
-    kind: Kind,
-    s: &[u8],
-    at: usize,
-    bytes: &[u8],
-    words: &[u32],
-    floats: &[f32],
-    n: usize,
-) -> Compared
-    ensures { result ≡ compared_of kind s.now at bytes.now words.now floats.now n }
-{
-    let mut next = at;
-    let mut wrong: usize = 0;
-    let mut i: usize = 0;
-    while i < n {
-        let found = entry(kind, bytes, words, floats, i);
-        wrong = plus(wrong, differ(found, listed(kind, s, next)));
-        next = skip(s, next, size(kind));
-        i += 1;
-    }
-    Compared {
-        next,
-        wrong,
-        values: n,
-    }
-}
-
-fn entry(kind: Kind, bytes: &[u8], words: &[u32], floats: &[f32], i: usize) -> u64
-    ensures { result ≡ entry_of kind bytes.now words.now floats.now i }
-{
-    match kind {
-        Kind::Bytes => byte(bytes, i),
-        Kind::Words => word_at(words, i),
-        Kind::Floats => float_at(floats, i),
-    }
-}
-
-fn listed(kind: Kind, s: &[u8], at: usize) -> u64
-    ensures { result ≡ listed_of kind s.now at }
-{
-    match kind {
-        Kind::Bytes => byte(s, at),
-        Kind::Words => word(s, at),
-        Kind::Floats => word(s, at),
-    }
-}
-
-fn size(kind: Kind) -> usize
-    ensures { result ≡ size_of kind }
-{
-    match kind {
-        Kind::Bytes => 1,
-        Kind::Words => 4,
-        Kind::Floats => 4,
     }
 }

@@ -2,8 +2,8 @@
 // agrees is counted.
 #![tactic(auto)]
 
-pub use entries::{Compared, bytes, floats, sides, then, words};
-pub use walk::{Walk, after, more, start};
+pub use entries::{Compared, Entry, compare, sides};
+pub use walk::{Tally, Walk};
 
 mod entries;
 mod walk;

@@ -1,6 +1,6 @@
 // Along the records of a list: where the walk stands, and what was found so far.
-ghost use Rattle.std.specs.Prelude.{◌≡◌, cond, eqb};
-ghost use Rattle.replay.specs.Tallies.{none, counted, opened, onward, walked};
+ghost use Rattle.std.specs.Prelude.{◌≡◌, cond, eqb, false};
+ghost use Rattle.replay.specs.Tallies.{counted, opened, onward, walked};
 
 use vectors::{after_line, plus};
 
@@ -8,46 +8,40 @@ use vectors::{after_line, plus};
 const RECORDS: usize = 65536;
 
 // How many records there were, how many disagree, and the number of the first of those, counted from 0.
-#[derive(Clone, Copy)]
+#[derive(Clone, Copy, Default)]
 pub struct Tally {
     pub records: usize,
     pub wrong: usize,
     pub first: usize,
 }
 
-fn nothing_yet() -> Tally
-    ensures { result ≡ none }
-{
-    Tally {
-        records: 0,
-        wrong: 0,
-        first: 0,
+impl Tally {
+    // One record more, in which that many things disagree.
+    #[tactic(auto, unfolding(crate::specs::Tallies::counted))]
+    fn with(self, wrong: usize) -> Tally
+        ensures { result ≡ counted self wrong }
+    {
+        let records = plus(self.records, 1);
+        if wrong == 0 {
+            return Tally { records, ..self };
+        }
+        Tally {
+            records,
+            wrong: plus(self.wrong, 1),
+            first: self.earliest(),
+        }
     }
-}
 
-// One record more, in which that many things disagree.
-fn with(t: Tally, wrong: usize) -> Tally
-    ensures { result ≡ counted t wrong }
-{
-    if wrong == 0 {
-        return Tally {
-            records: plus(t.records, 1),
-            wrong: t.wrong,
-            first: t.first,
-        };
+    // The number of the first record that disagrees, where the next one does.
+    fn earliest(self) -> usize
+        ensures { result ≡ cond (eqb self.wrong 0) self.records self.first }
+    {
+        if self.wrong == 0 {
+            self.records
+        } else {
+            self.first
+        }
     }
-    Tally {
-        records: plus(t.records, 1),
-        wrong: plus(t.wrong, 1),
-        first: earliest(t),
-    }
-}
-
-// The number of the first record that disagrees, where this one does.
-fn earliest(t: Tally) -> usize
-    ensures { result ≡ cond (eqb t.wrong 0) t.records t.first }
-{
-    if t.wrong == 0 { t.records } else { t.first }
 }
 
 // Where the next record stands, how many more may be read, and what was counted.
@@ -58,32 +52,48 @@ pub struct Walk {
     pub tally: Tally,
 }
 
-// Before the first record, which stands after the list's line.
-pub fn start(s: &[u8]) -> Walk
-    ensures { result ≡ opened s.now }
-{
-    Walk {
-        next: after_line(s),
-        left: RECORDS,
-        tally: nothing_yet(),
+impl Walk {
+    // Before the first record, which stands after the list's line.
+    pub fn start(s: &[u8]) -> Walk
+        ensures { result ≡ opened s.now }
+    {
+        Walk {
+            next: after_line(s),
+            left: RECORDS,
+            tally: Tally::default(),
+        }
     }
-}
 
-// Whether there is another record.
-pub fn more(s: &[u8], w: Walk) -> bool
-    ensures { result ≡ onward s.now w }
-{
-    if w.left > 0 { w.next < s.len() } else { false }
-}
+    // Whether there is another record.
+    #[tactic(auto, unfolding(crate::specs::Tallies::onward))]
+    pub fn more(self, s: &[u8]) -> bool
+        ensures { result ≡ onward s.now self }
+    {
+        self.left > 0 && self.next < s.len()
+    }
 
-// After a record that ends before `next`, and in which that many things disagree.
-pub fn after(w: Walk, next: usize, wrong: usize) -> Walk
-    ensures { result ≡ walked w next wrong }
-{
-    let tally = w.tally;
-    Walk {
-        next,
-        left: sizes::less(w.left, 1),
-        tally: with(tally, wrong),
+    // After a record that ends before `next`, and in which that many things disagree.
+    #[tactic(auto, unfolding(crate::specs::Tallies::walked))]
+    pub fn after(self, next: usize, wrong: usize) -> Walk
+        ensures { result ≡ walked self next wrong }
+    {
+        Walk {
+            next,
+            left: self.left.saturating_sub(1),
+            tally: self.tally.with(wrong),
+        }
+    }
+
+    // Along every record: `visit` takes where one stands, and answers where it ends and how many things in it disagree.
+    pub fn along<F: FnMut(usize) -> (usize, usize)>(s: &[u8], mut visit: F) -> Walk
+        requires { F.IsAlwaysCallable visit }
+        ensures { onward s.now result ≡ false }
+    {
+        let mut walk = Walk::start(s);
+        while walk.more(s) {
+            let (next, wrong) = visit(walk.next);
+            walk = walk.after(next, wrong);
+        }
+        walk
     }
 }

@@ -3,8 +3,9 @@
 #![tactic(auto)]
 
 use params::{Outcome, Verdicts};
-use replay::{Compared, Walk};
+use replay::{Compared, Entry, Walk};
 use std::io;
+use vectors::{capped, differ, field, plus, skip, word};
 
 // Entries of each lent work buffer, and the bytes of the longest file that a single call takes.
 const ROOM: usize = 2304;
@@ -23,65 +24,55 @@ const OLD_WORD: u32 = 0xa5a5_a5a5;
 
 const OLD_NUMBER: u64 = 0xa5a5_0000;
 
-// Where cameras are counted, behind those of each answer: their corners, all cameras, and those held to a single call.
-const FOUND: usize = 29;
-
-const ALL: usize = 30;
-
-const SINGLE: usize = 31;
-
-// Where arches are counted that were refused, behind those of each camera count.
-const REFUSED: usize = 21;
+// What was found: arches by their camera count, and those refused; cameras by the number of their answer, all of them, those held to a single call,
+// and their corners.
+#[derive(Clone, Copy, Default)]
+struct Found {
+    arches: [usize; 32],
+    refused: usize,
+    answered: [usize; 32],
+    cameras: usize,
+    single: usize,
+    corners: usize,
+}
 
 fn main(rt: HostRuntime) -> io::Result<()> {
     let mut input = vectors::room();
-    let got = tell::read_full(&mut rt.stdin(), &mut input)?;
+    let got = input::read_full(&mut rt.stdin(), &mut input)?;
     replayed(&rt, &input[..got])
 }
 
 // Every arch; then what was found.
 fn replayed(rt: &impl Print, s: &[u8]) -> io::Result<()> {
-    let mut walk = replay::start(s);
     let mut values: usize = 0;
-    let mut arches = [0usize; 32];
-    let mut cameras = [0usize; 32];
-    while replay::more(s, walk) {
-        let c = record(s, walk.next, &mut arches, &mut cameras);
-        walk = replay::after(walk, c.next, c.wrong);
-        values = vectors::plus(values, c.values);
-    }
-    report(rt, s, walk, values, &arches, &cameras)
-}
-
-fn report(
-    rt: &impl Print,
-    s: &[u8],
-    walk: Walk,
-    values: usize,
-    arches: &[usize; 32],
-    cameras: &[usize; 32],
-) -> io::Result<()> {
+    let mut found = Found::default();
+    let walk = Walk::along(s, |at| {
+        let c = record(s, at, &mut found);
+        values = plus(values, c.values);
+        (c.next, c.wrong)
+    });
     tell::head(rt, s, walk)?;
-    tell::say(rt, b"values compared", values)?;
-    tell::each(rt, b"arches with a camera count of ", arches, 2, 9)?;
-    tell::say(rt, b"arches answered 21", arches[REFUSED])?;
-    tell::say(rt, b"cameras", cameras[ALL])?;
-    tell::each(rt, b"of these answered ", cameras, 0, 16)?;
-    tell::say(rt, b"of these held to a single call", cameras[SINGLE])?;
-    tell::say(rt, b"corners that they found", cameras[FOUND])
+    tell::say(rt, "values compared", values)?;
+    tell::each(rt, "arches with a camera count of ", &found.arches, 2, 9)?;
+    tell::say(rt, "arches answered 21", found.refused)?;
+    tell::say(rt, "cameras", found.cameras)?;
+    tell::each(rt, "of these answered ", &found.answered, 0, 16)?;
+    tell::say(rt, "of these held to a single call", found.single)?;
+    tell::say(rt, "corners that they found", found.corners)
 }
 
-// So many more there.
-fn count(counts: &mut [usize; 32], at: usize, n: usize) {
-    let i = vectors::capped(at as u64, 31);
-    counts[i] = vectors::plus(counts[i], n);
+// One more there.
+fn count(counts: &mut [usize; 32], at: usize) {
+    if let Some(n) = counts.get_mut(at) {
+        *n = plus(*n, 1);
+    }
 }
 
 // A record: camera count, length of the list, frames, and what is due.
-fn record(s: &[u8], at: usize, arches: &mut [usize; 32], cameras: &mut [usize; 32]) -> Compared {
-    let given = vectors::skip(s, at, 8);
-    let many = vectors::word(s, at) as usize;
-    let room = vectors::capped(vectors::field(s, at, 4), NUMBERS);
+fn record(s: &[u8], at: usize, found: &mut Found) -> Compared {
+    let given = skip(s, at, 8);
+    let many = word(s, at) as usize;
+    let room = capped(field(s, at, 4), NUMBERS);
     let frames = vectors::sized(s, given);
     let due = vectors::behind(s, given);
     let mut list = old_numbers();
@@ -104,17 +95,27 @@ fn record(s: &[u8], at: usize, arches: &mut [usize; 32], cameras: &mut [usize; 3
         &mut scratch,
         &mut list[0..room],
     );
-    let reached = vectors::field(s, due, 8);
-    let kept = work_kept(
-        working, row, col, falling, rising, response, scratch, reached,
-    );
+    let reached = field(s, due, 8);
+    let beyond = kept(&working, reached)
+        .then(kept(&row, reached))
+        .then(kept(&col, reached))
+        .then(kept(&falling, reached))
+        .then(kept(&rising, reached))
+        .then(kept(&response, reached))
+        .then(kept(&scratch, reached));
     let answer = outcome.answer;
     let number = answer.number() as u64;
-    count(arches, told_as(number, many, REFUSED), 1);
-    let c = replay::then(kept, own(number, s, due));
-    let n = told_as(number, many, 0);
-    let told = outcome.cameras;
-    replay::then(c, against(told, n, list, frames, s, due, cameras))
+    // A refused arch has no camera of its own.
+    let n = if number == 0 {
+        count(&mut found.arches, many);
+        many
+    } else {
+        found.refused = plus(found.refused, 1);
+        0
+    };
+    beyond
+        .then(own(number, s, due))
+        .then(against(outcome.cameras, n, list, frames, s, due, found))
 }
 
 fn old_float() -> f32 {
@@ -124,74 +125,35 @@ fn old_float() -> f32 {
 // What the list holds before a call.
 fn old_numbers() -> [f32; 1024] {
     let mut list = [0.0f32; 1024];
-    let mut i: usize = 0;
-    while i < 1024 {
-        list[i] = vectors::float(OLD_NUMBER + i as u64);
-        i += 1;
+    for (i, x) in list.iter_mut().enumerate() {
+        *x = vectors::float(OLD_NUMBER + i as u64);
     }
     list
 }
 
-// The camera count of an arch with that answer of its own, or a number in its place where it was refused.
-fn told_as(number: u64, many: usize, refused: usize) -> usize {
-    if number == 0 { many } else { refused }
-}
-
-// The work buffers, from the entry on that no frame reaches.
-fn work_kept(
-    working: [u8; 2304],
-    row: [u32; 2304],
-    col: [u32; 2304],
-    falling: [u32; 2304],
-    rising: [u32; 2304],
-    response: [f32; 2304],
-    scratch: [f32; 2304],
-    from: u64,
-) -> Compared {
-    let c = bytes_kept(working, from);
-    let c = replay::then(c, words_kept(row, from));
-    let c = replay::then(c, words_kept(col, from));
-    let c = replay::then(c, words_kept(falling, from));
-    let c = replay::then(c, words_kept(rising, from));
-    let c = replay::then(c, floats_kept(response, from));
-    replay::then(c, floats_kept(scratch, from))
-}
-
-fn bytes_kept(bytes: [u8; 2304], from: u64) -> Compared {
-    let a = vectors::capped(from, ROOM);
-    replay::bytes(&[OLD; 2304], 0, &bytes[a..], ROOM - a)
-}
-
-fn words_kept(words: [u32; 2304], from: u64) -> Compared {
-    let a = vectors::capped(from, ROOM);
-    replay::words(&[OLD; 9216], 0, &words[a..], ROOM - a)
-}
-
-fn floats_kept(floats: [f32; 2304], from: u64) -> Compared {
-    let a = vectors::capped(from, ROOM);
-    replay::floats(&[OLD; 9216], 0, &floats[a..], ROOM - a)
+// A work buffer, from the entry on that no frame reaches.
+fn kept<T: Entry>(buffer: &[T; 2304], reached: u64) -> Compared {
+    let whole = &buffer[..];
+    let rest = &whole[capped(reached, ROOM)..];
+    replay::compare(&[OLD; 9216], 0, rest, rest.len())
 }
 
 // The arch's own answer.
 fn own(number: u64, s: &[u8], due: usize) -> Compared {
     Compared {
         next: due,
-        wrong: vectors::differ(number, vectors::word(s, due)),
+        wrong: differ(number, word(s, due)),
         values: 1,
     }
 }
 
 // All numbers of two lists.
-fn numbers(list: &[f32], second: &[f32]) -> Compared {
-    let mut wrong: usize = 0;
-    let mut i: usize = 0;
-    while i < NUMBERS {
-        wrong = vectors::plus(
-            wrong,
-            vectors::differ(vectors::float_at(list, i), vectors::float_at(second, i)),
-        );
-        i += 1;
-    }
+fn numbers(list: &[f32; 1024], second: &[f32; 1024]) -> Compared {
+    let wrong = list
+        .iter()
+        .zip(second)
+        .filter(|(a, b)| vectors::bits(**a) != vectors::bits(**b))
+        .count();
     Compared {
         next: 0,
         wrong,
@@ -207,37 +169,24 @@ fn against(
     frames: &[u8],
     s: &[u8],
     due: usize,
-    cameras: &mut [usize; 32],
+    found: &mut Found,
 ) -> Compared {
-    let size = vectors::capped(vectors::field(s, due, 4), SHARE);
+    let size = capped(field(s, due, 4), SHARE);
     let mut second = old_numbers();
-    let mut all = nothing(vectors::skip(s, due, 12));
-    let mut a: usize = 0;
-    let mut i: usize = 0;
-    while i < 8 {
-        let e = a + size;
-        let c = camera(
-            told[i],
-            i < n,
-            frames,
-            s,
-            all.next,
-            &mut second[a..e],
-            cameras,
-        );
-        all = replay::then(all, c);
-        a = e;
-        i += 1;
-    }
-    replay::then(numbers(&list, &second), all)
-}
-
-fn nothing(at: usize) -> Compared {
-    Compared {
-        next: at,
+    let mut all = Compared {
+        next: skip(s, due, 12),
         wrong: 0,
         values: 0,
+    };
+    let mut begin: usize = 0;
+    for (i, camera_told) in told.iter().enumerate() {
+        let end = begin + size;
+        let share = &mut second[begin..end];
+        let c = camera(*camera_told, i < n, frames, s, all.next, share, found);
+        all = all.then(c);
+        begin = end;
     }
+    numbers(&list, &second).then(all)
 }
 
 // A camera against what is listed; and, where its frame lies whole and is not too long for that, against a single call with its share. It counts if
@@ -249,98 +198,86 @@ fn camera(
     s: &[u8],
     at: usize,
     share: &mut [f32],
-    cameras: &mut [usize; 32],
+    found: &mut Found,
 ) -> Compared {
     if counts {
-        count_camera(told, cameras);
+        count_camera(told, found);
     }
-    let c = listed(told, s, vectors::skip(s, at, 8));
-    let begin = vectors::word(s, at) as usize;
-    let end = vectors::skip(frames, begin, vectors::field(s, at, 4) as usize);
+    let c = listed(told, s, skip(s, at, 8));
+    let begin = word(s, at) as usize;
+    let end = skip(frames, begin, field(s, at, 4) as usize);
     let file = vectors::part(frames, begin, end);
-    if file.len() == 0 || file.len() > LIMIT {
+    if file.is_empty() || file.len() > LIMIT {
         return c;
     }
-    count(cameras, SINGLE, 1);
+    found.single = plus(found.single, 1);
     let single = program::run_with_room(file, share);
-    replay::then(same(told, single), c)
+    same(told, single).then(c)
 }
 
 // By its answer.
-fn count_camera(told: Outcome, cameras: &mut [usize; 32]) {
+fn count_camera(told: Outcome, found: &mut Found) {
     let answer = told.answer;
-    count(cameras, answer.number() as usize, 1);
-    count(cameras, FOUND, told.count);
-    count(cameras, ALL, 1);
+    count(&mut found.answered, answer.number() as usize);
+    found.corners = plus(found.corners, told.count);
+    found.cameras = plus(found.cameras, 1);
 }
 
 // The answer, which for an accepted frame is listed as 0, and the sides; as many kept as found, and with a refusal no corners and six zeros.
 fn listed(told: Outcome, s: &[u8], at: usize) -> Compared {
     let answer = told.answer;
     let number = answer.number() as u64;
-    let sides = vectors::plus(
-        vectors::differ(told.w as u64, vectors::field(s, at, 4)),
-        vectors::differ(told.h as u64, vectors::field(s, at, 8)),
+    let sides = plus(
+        differ(told.w as u64, field(s, at, 4)),
+        differ(told.h as u64, field(s, at, 8)),
     );
-    let due = vectors::word(s, at);
-    let next = vectors::skip(s, at, 12);
+    let due = word(s, at);
+    let next = skip(s, at, 12);
     let v = told.verdicts;
     if number <= 1 {
-        let kept = vectors::differ(v.kept as u64, told.count as u64);
+        let kept = differ(v.kept as u64, told.count as u64);
         return Compared {
             next,
-            wrong: vectors::plus(vectors::differ(0, due), vectors::plus(sides, kept)),
+            wrong: plus(differ(0, due), plus(sides, kept)),
             values: 4,
         };
     }
-    let head = vectors::plus(
-        vectors::differ(number, due),
-        vectors::differ(told.count as u64, 0),
-    );
+    let head = plus(differ(number, due), differ(told.count as u64, 0));
     Compared {
         next,
-        wrong: vectors::plus(head, vectors::plus(sides, six(v, Verdicts::none()))),
+        wrong: plus(head, plus(sides, six(v, Verdicts::none()))),
         values: 10,
     }
 }
 
 // Of two calls' six counts, those that differ.
 fn six(a: Verdicts, b: Verdicts) -> usize {
-    let window = vectors::plus(
-        vectors::differ(a.not_above as u64, b.not_above as u64),
-        vectors::plus(
-            vectors::differ(a.beaten as u64, b.beaten as u64),
-            vectors::differ(a.too_few as u64, b.too_few as u64),
-        ),
-    );
-    let saddle = vectors::plus(
-        vectors::differ(a.too_flat as u64, b.too_flat as u64),
-        vectors::plus(
-            vectors::differ(a.wrong_curvature as u64, b.wrong_curvature as u64),
-            vectors::differ(a.kept as u64, b.kept as u64),
-        ),
-    );
-    vectors::plus(window, saddle)
+    let both = [
+        (a.not_above, b.not_above),
+        (a.beaten, b.beaten),
+        (a.too_few, b.too_few),
+        (a.too_flat, b.too_flat),
+        (a.wrong_curvature, b.wrong_curvature),
+        (a.kept, b.kept),
+    ];
+    both.iter().filter(|(m, n)| *m != *n).count()
 }
 
 // Two outcomes.
 fn same(told: Outcome, single: Outcome) -> Compared {
     let a = told.answer;
     let b = single.answer;
-    let head = vectors::plus(
-        vectors::differ(a.number() as u64, b.number() as u64),
-        vectors::differ(told.count as u64, single.count as u64),
+    let head = plus(
+        differ(a.number() as u64, b.number() as u64),
+        differ(told.count as u64, single.count as u64),
     );
-    let sides = vectors::plus(
-        vectors::differ(told.w as u64, single.w as u64),
-        vectors::differ(told.h as u64, single.h as u64),
+    let sides = plus(
+        differ(told.w as u64, single.w as u64),
+        differ(told.h as u64, single.h as u64),
     );
     Compared {
         next: 0,
-        wrong: vectors::plus(
-            head,
-            vectors::plus(sides, six(told.verdicts, single.verdicts)),
-        ),
+        wrong: plus(head, plus(sides, six(told.verdicts, single.verdicts))),
         values: 10,
     }
 }

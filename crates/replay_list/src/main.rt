@@ -6,6 +6,7 @@
 use params::{Outcome, Verdicts};
 use replay::Walk;
 use std::io;
+use vectors::{differ, float_at, plus, skip, word};
 
 // No record has more corners than the program's list takes.
 const MOST: usize = 256;
@@ -14,7 +15,7 @@ const NEAR: f32 = 0.001;
 
 // What was compared, and the place behind it: how many numbers disagree, and of the Gaussian corners how many have their place to the bit, within
 // the distance, beyond it.
-#[derive(Clone, Copy)]
+#[derive(Clone, Copy, Default)]
 struct Compared {
     next: usize,
     wrong: usize,
@@ -23,50 +24,37 @@ struct Compared {
     beyond: usize,
 }
 
+impl Compared {
+    // What was compared before, and what after it.
+    fn then(self, after: Compared) -> Compared {
+        Compared {
+            next: after.next,
+            wrong: plus(self.wrong, after.wrong),
+            equal: plus(self.equal, after.equal),
+            near: plus(self.near, after.near),
+            beyond: plus(self.beyond, after.beyond),
+        }
+    }
+}
+
 fn main(rt: HostRuntime) -> io::Result<()> {
     let mut input = vectors::room();
-    let got = tell::read_full(&mut rt.stdin(), &mut input)?;
+    let got = input::read_full(&mut rt.stdin(), &mut input)?;
     replayed(&rt, &input[..got])
-}
-
-fn nothing(at: usize) -> Compared {
-    Compared {
-        next: at,
-        wrong: 0,
-        equal: 0,
-        near: 0,
-        beyond: 0,
-    }
-}
-
-// What was compared before, and what after it.
-fn then(a: Compared, b: Compared) -> Compared {
-    Compared {
-        next: b.next,
-        wrong: vectors::plus(a.wrong, b.wrong),
-        equal: vectors::plus(a.equal, b.equal),
-        near: vectors::plus(a.near, b.near),
-        beyond: vectors::plus(a.beyond, b.beyond),
-    }
 }
 
 // Every record; then what was found.
 fn replayed(rt: &impl Print, s: &[u8]) -> io::Result<()> {
-    let mut walk = replay::start(s);
-    let mut all = nothing(0);
-    while replay::more(s, walk) {
-        let c = record(s, walk.next);
-        walk = replay::after(walk, c.next, c.wrong);
-        all = then(all, c);
-    }
-    report(rt, s, walk, all)
-}
-
-fn report(rt: &impl Print, s: &[u8], walk: Walk, all: Compared) -> io::Result<()> {
+    let mut all = Compared::default();
+    let walk = Walk::along(s, |at| {
+        let c = record(s, at);
+        all = all.then(c);
+        (c.next, c.wrong)
+    });
     tell::head(rt, s, walk)?;
-    tell::say(rt, b"Gaussian places equal to the bit", all.equal)?;
-    tell::say(rt, b"Gaussian places within 0.001", all.near)?;
-    tell::say(rt, b"Gaussian places beyond", all.beyond)
+    tell::say(rt, "Gaussian places equal to the bit", all.equal)?;
+    tell::say(rt, "Gaussian places within 0.001", all.near)?;
+    tell::say(rt, "Gaussian places beyond", all.beyond)
 }
 
 // A record: a file, and its list.
@@ -80,11 +68,9 @@ fn found(file: &[u8], s: &[u8], at: usize) -> Compared {
     let outcome = program::run_with_room(file, &mut list);
     let first = sides(outcome, s, at);
     let six = counts(outcome.verdicts, s, first.next);
-    let many = vectors::capped(vectors::word(s, vectors::skip(s, at, 8)), MOST);
-    then(
-        then(first, six),
-        corners(&list, many, s, six.next, vectors::gaussian(file)),
-    )
+    let many = vectors::capped(word(s, skip(s, at, 8)), MOST);
+    let places = corners(&list, many, s, six.next, vectors::gaussian(file));
+    first.then(six).then(places)
 }
 
 // The answer 0, the two sides and the count.
@@ -97,99 +83,93 @@ fn sides(outcome: Outcome, s: &[u8], at: usize) -> Compared {
         outcome.w as u64,
         outcome.h as u64,
     );
-    let wrong = vectors::differ(outcome.count as u64, vectors::word(s, c.next));
-    one(
-        vectors::skip(s, c.next, 4),
-        vectors::plus(c.wrong, wrong),
-        0,
-        0,
-        0,
-    )
+    let wrong = differ(outcome.count as u64, word(s, c.next));
+    Compared {
+        next: skip(s, c.next, 4),
+        wrong: plus(c.wrong, wrong),
+        ..Compared::default()
+    }
 }
 
 // The six counts, in the order of the rules.
 fn counts(v: Verdicts, s: &[u8], at: usize) -> Compared {
-    let window = vectors::plus(
-        count(v.not_above, s, at),
-        vectors::plus(
-            count(v.beaten, s, vectors::skip(s, at, 4)),
-            count(v.too_few, s, vectors::skip(s, at, 8)),
-        ),
-    );
-    let saddle = vectors::plus(
-        count(v.too_flat, s, vectors::skip(s, at, 12)),
-        vectors::plus(
-            count(v.wrong_curvature, s, vectors::skip(s, at, 16)),
-            count(v.kept, s, vectors::skip(s, at, 20)),
-        ),
-    );
-    one(
-        vectors::skip(s, at, 24),
-        vectors::plus(window, saddle),
-        0,
-        0,
-        0,
-    )
-}
-
-fn count(n: usize, s: &[u8], at: usize) -> usize {
-    vectors::differ(n as u64, vectors::word(s, at))
+    let mut next = at;
+    let mut wrong: usize = 0;
+    for n in [
+        v.not_above,
+        v.beaten,
+        v.too_few,
+        v.too_flat,
+        v.wrong_curvature,
+        v.kept,
+    ] {
+        wrong = plus(wrong, differ(n as u64, word(s, next)));
+        next = skip(s, next, 4);
+    }
+    Compared {
+        next,
+        wrong,
+        ..Compared::default()
+    }
 }
 
 // As many corners as the record has, so that the next record is found even where this one disagrees.
 fn corners(list: &[f32], count: usize, s: &[u8], at: usize, gaussian: bool) -> Compared {
-    let mut all = nothing(at);
-    let mut i: usize = 0;
-    while i < count {
-        all = then(all, corner(list, i, s, all.next, gaussian));
-        i += 1;
+    let mut all = Compared {
+        next: at,
+        ..Compared::default()
+    };
+    for i in 0..count {
+        all = all.then(corner(list, i, s, all.next, gaussian));
     }
     all
 }
 
 // One corner: x, y and strength.
 fn corner(list: &[f32], i: usize, s: &[u8], at: usize, gaussian: bool) -> Compared {
-    let next = vectors::skip(s, at, 12);
+    let compared = Compared {
+        next: skip(s, at, 12),
+        ..Compared::default()
+    };
     if i >= MOST {
-        return one(next, 1, 0, 0, 0);
+        return Compared {
+            wrong: 1,
+            ..compared
+        };
     }
-    let y = vectors::skip(s, at, 4);
-    let strength = vectors::skip(s, at, 8);
-    let wrong = vectors::differ(
-        vectors::float_at(list, 3 * i + 2),
-        vectors::word(s, strength),
-    );
-    let places = vectors::plus(
-        vectors::differ(vectors::float_at(list, 3 * i), vectors::word(s, at)),
-        vectors::differ(vectors::float_at(list, 3 * i + 1), vectors::word(s, y)),
-    );
+    let x = float_at(list, 3 * i);
+    let y = float_at(list, 3 * i + 1);
+    let strength = float_at(list, 3 * i + 2);
+    let due_x = word(s, at);
+    let due_y = word(s, skip(s, at, 4));
+    let wrong = differ(strength, word(s, skip(s, at, 8)));
+    let places = plus(differ(x, due_x), differ(y, due_y));
     if !gaussian {
-        return one(next, vectors::plus(wrong, places), 0, 0, 0);
+        return Compared {
+            wrong: plus(wrong, places),
+            ..compared
+        };
     }
+    let compared = Compared { wrong, ..compared };
     if places == 0 {
-        return one(next, wrong, 1, 0, 0);
+        return Compared {
+            equal: 1,
+            ..compared
+        };
     }
-    if close(vectors::float_at(list, 3 * i), vectors::word(s, at))
-        && close(vectors::float_at(list, 3 * i + 1), vectors::word(s, y))
-    {
-        return one(next, wrong, 0, 1, 0);
+    if close(x, due_x) && close(y, due_y) {
+        return Compared {
+            near: 1,
+            ..compared
+        };
     }
-    one(next, wrong, 0, 0, 1)
-}
-
-fn one(next: usize, wrong: usize, equal: usize, near: usize, beyond: usize) -> Compared {
     Compared {
-        next,
-        wrong,
-        equal,
-        near,
-        beyond,
+        beyond: 1,
+        ..compared
     }
 }
 
 // Whether the floats of two bit patterns are within the distance; no NaN is.
 fn close(a: u64, b: u64) -> bool {
-    let x = vectors::float(a);
-    let y = vectors::float(b);
-    if x < y { y - x <= NEAR } else { x - y <= NEAR }
+    (vectors::float(a) - vectors::float(b)).abs() <= NEAR
 }

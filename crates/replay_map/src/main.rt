@@ -1,7 +1,7 @@
 // Replays frames through the map's entry and compares working image, tables, response and scratch to the bit.
 #![tactic(auto)]
 
-use replay::{Compared, Walk};
+use replay::{Compared, Walk, compare};
 use response::Mapped;
 use std::io;
 
@@ -10,25 +10,20 @@ const LIMIT: usize = 2324;
 
 fn main(rt: HostRuntime) -> io::Result<()> {
     let mut input = vectors::room();
-    let got = tell::read_full(&mut rt.stdin(), &mut input)?;
+    let got = input::read_full(&mut rt.stdin(), &mut input)?;
     replayed(&rt, &input[..got])
 }
 
 // Every record; then what was found.
 fn replayed(rt: &impl Print, s: &[u8]) -> io::Result<()> {
-    let mut walk = replay::start(s);
     let mut values: usize = 0;
-    while replay::more(s, walk) {
-        let c = record(s, walk.next);
-        walk = replay::after(walk, c.next, c.wrong);
+    let walk = Walk::along(s, |at| {
+        let c = record(s, at);
         values = vectors::plus(values, c.values);
-    }
-    report(rt, s, walk, values)
-}
-
-fn report(rt: &impl Print, s: &[u8], walk: Walk, values: usize) -> io::Result<()> {
+        (c.next, c.wrong)
+    });
     tell::head(rt, s, walk)?;
-    tell::say(rt, b"values compared", values)
+    tell::say(rt, "values compared", values)
 }
 
 // A record: a file, and what its map is.
@@ -61,39 +56,40 @@ fn mapped(file: &[u8], s: &[u8], at: usize) -> Compared {
         &mut response,
         &mut scratch,
     );
-    against(
-        map, &working, &row, &col, &falling, &rising, &response, &scratch, s, at,
-    )
+    let written = Written {
+        working: &working,
+        tables: [&row, &col, &falling, &rising],
+        response: &response,
+        scratch: &scratch,
+    };
+    against(map, written, s, at)
+}
+
+// What a map wrote, in the list's order.
+#[derive(Clone, Copy)]
+struct Written<'a> {
+    working: &'a [u8],
+    tables: [&'a [u32]; 4],
+    response: &'a [f32],
+    scratch: &'a [f32],
 }
 
 // The map against the list, from a place on, in the list's order and with the list's sides. A word says whether there is a scratch.
-fn against(
-    map: Mapped,
-    working: &[u8],
-    row: &[u32],
-    col: &[u32],
-    falling: &[u32],
-    rising: &[u32],
-    response: &[f32],
-    scratch: &[f32],
-    s: &[u8],
-    at: usize,
-) -> Compared {
+fn against(map: Mapped, written: Written, s: &[u8], at: usize) -> Compared {
     let answer = map.answer;
     let n = area(
         vectors::word(s, at) as usize,
         vectors::word(s, vectors::skip(s, at, 4)) as usize,
     );
     let c = replay::sides(s, at, answer.number() as u64, map.w as u64, map.h as u64);
-    let c = replay::then(c, replay::bytes(s, c.next, working, n));
-    let c = replay::then(c, replay::words(s, c.next, row, n));
-    let c = replay::then(c, replay::words(s, c.next, col, n));
-    let c = replay::then(c, replay::words(s, c.next, falling, n));
-    let c = replay::then(c, replay::words(s, c.next, rising, n));
-    let c = replay::then(c, replay::floats(s, c.next, response, n));
+    let mut c = c.then(compare(s, c.next, written.working, n));
+    for table in written.tables {
+        c = c.then(compare(s, c.next, table, n));
+    }
+    let c = c.then(compare(s, c.next, written.response, n));
     let blurred = vectors::word(s, c.next);
     let next = vectors::skip(s, c.next, 4);
-    replay::then(c, replay::floats(s, next, scratch, where_one(blurred, n)))
+    c.then(compare(s, next, written.scratch, where_one(blurred, n)))
 }
 
 // A file of the list is not refused.
@@ -111,10 +107,7 @@ fn where_one(flag: u64, n: usize) -> usize {
 
 // Working pixels; 0 where a side is longer than any is.
 fn area(w: usize, h: usize) -> usize {
-    if w > 4096 {
-        return 0;
-    }
-    if h > 4096 {
+    if w > 4096 || h > 4096 {
         return 0;
     }
     w * h

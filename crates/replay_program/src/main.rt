@@ -7,6 +7,7 @@ ghost use Rattle.std.specs.Prelude.{◌≡◌, min, length, take};
 use params::Outcome;
 use replay::Walk;
 use std::io;
+use vectors::{part, plus, skip};
 
 // Where a corner's line has its strength, and how long that line is.
 const STRENGTH: usize = 18;
@@ -14,52 +15,46 @@ const STRENGTH: usize = 18;
 const CORNER: usize = 27;
 
 // What was compared, and the place behind it: lines that disagree, and corners that differ in their places alone.
-#[derive(Clone, Copy)]
+#[derive(Clone, Copy, Default)]
 struct Compared {
     next: usize,
     wrong: usize,
     places: usize,
 }
 
+impl Compared {
+    // What was compared before, and what after it.
+    fn then(self, after: Compared) -> Compared {
+        Compared {
+            next: after.next,
+            wrong: plus(self.wrong, after.wrong),
+            places: plus(self.places, after.places),
+        }
+    }
+}
+
 fn main(rt: HostRuntime) -> io::Result<()> {
     let mut input = vectors::room();
-    let got = tell::read_full(&mut rt.stdin(), &mut input)?;
+    let got = input::read_full(&mut rt.stdin(), &mut input)?;
     replayed(&rt, &input[..got])
 }
 
 // Every record; then what was found.
 fn replayed(rt: &impl Print, s: &[u8]) -> io::Result<()> {
-    let mut walk = replay::start(s);
     let mut exact: usize = 0;
     let mut lists: usize = 0;
     let mut places: usize = 0;
-    while replay::more(s, walk) {
-        let c = record(s, walk.next);
-        walk = replay::after(walk, c.next, c.wrong);
-        exact = vectors::plus(exact, whole(c.wrong, c.places));
-        lists = vectors::plus(lists, vectors::differ(c.places as u64, 0));
-        places = vectors::plus(places, c.places);
-    }
-    report(rt, s, walk, exact, lists, places)
-}
-
-fn report(
-    rt: &impl Print,
-    s: &[u8],
-    walk: Walk,
-    exact: usize,
-    lists: usize,
-    places: usize,
-) -> io::Result<()> {
+    let walk = Walk::along(s, |at| {
+        let c = record(s, at);
+        exact = plus(exact, usize::from(c.wrong == 0 && c.places == 0));
+        lists = plus(lists, usize::from(c.places > 0));
+        places = plus(places, c.places);
+        (c.next, c.wrong)
+    });
     tell::head(rt, s, walk)?;
-    tell::say(rt, b"records that agree to the bit", exact)?;
-    tell::say(rt, b"Gaussian lists in which places differ", lists)?;
-    tell::say(rt, b"corners whose places differ there", places)
-}
-
-// 1 where nothing differs.
-fn whole(wrong: usize, places: usize) -> usize {
-    if wrong == 0 && places == 0 { 1 } else { 0 }
+    tell::say(rt, "records that agree to the bit", exact)?;
+    tell::say(rt, "Gaussian lists in which places differ", lists)?;
+    tell::say(rt, "corners whose places differ there", places)
 }
 
 // A record: a file, and a text.
@@ -68,8 +63,7 @@ fn record(s: &[u8], at: usize) -> Compared {
     let c = answered(vectors::sized(s, at), vectors::sized(s, text));
     Compared {
         next: vectors::behind(s, text),
-        wrong: c.wrong,
-        places: c.places,
+        ..c
     }
 }
 
@@ -92,33 +86,21 @@ fn put(file: &[u8], input: &mut [u8; 2325]) -> usize
 fn copy(file: &[u8], input: &mut [u8]) -> usize
     ensures { take result input.new ≡ take (length input.old) file.now }
 {
-    let n = sizes::lesser(file.len(), input.len());
-    let mut i = 0;
-    while i < n {
-        input[i] = file[i];
-        i += 1;
-    }
+    let n = file.len().min(input.len());
+    input[..n].copy_from_slice(&file[..n]);
     n
 }
 
 // Every line, and that the text ends with the last.
 fn printed(outcome: Outcome, list: &[f32; 768], text: &[u8], gaussian: bool) -> Compared {
-    let many = lines::lines(outcome, list);
-    let mut wrong: usize = 0;
-    let mut places: usize = 0;
-    let mut next: usize = 0;
-    let mut i: usize = 0;
-    while i < many {
-        let c = line(outcome, list, i, text, next, gaussian);
-        wrong = vectors::plus(wrong, c.wrong);
-        places = vectors::plus(places, c.places);
-        next = c.next;
-        i += 1;
+    let mut all = Compared::default();
+    for i in 0..lines::lines(outcome, list) {
+        all = all.then(line(outcome, list, i, text, all.next, gaussian));
     }
+    let end = usize::from(all.next != text.len());
     Compared {
-        next,
-        wrong: vectors::plus(wrong, vectors::differ(next as u64, text.len() as u64)),
-        places,
+        wrong: plus(all.wrong, end),
+        ..all
     }
 }
 
@@ -134,30 +116,19 @@ fn line(
     let line = lines::line_at(outcome, list, i);
     let bytes = line.bytes;
     let len = line.len;
-    let next = vectors::skip(text, at, len);
-    if check::same(vectors::part(&bytes, 0, len), vectors::part(text, at, next)) {
-        return Compared {
-            next,
-            wrong: 0,
-            places: 0,
-        };
+    let next = skip(text, at, len);
+    let same = Compared {
+        next,
+        ..Compared::default()
+    };
+    if part(&bytes, 0, len) == part(text, at, next) {
+        return same;
     }
     if gaussian && i > 0 && len == CORNER {
-        let from = vectors::skip(text, at, STRENGTH);
-        if check::same(
-            vectors::part(&bytes, STRENGTH, len),
-            vectors::part(text, from, next),
-        ) {
-            return Compared {
-                next,
-                wrong: 0,
-                places: 1,
-            };
+        let from = skip(text, at, STRENGTH);
+        if part(&bytes, STRENGTH, len) == part(text, from, next) {
+            return Compared { places: 1, ..same };
         }
     }
-    Compared {
-        next,
-        wrong: 1,
-        places: 0,
-    }
+    Compared { wrong: 1, ..same }
 }

@@ -28,7 +28,7 @@ const ALL: usize = 31;
 
 fn main(rt: HostRuntime) -> io::Result<()> {
     let mut input = vectors::room();
-    let got = tell::read_full(&mut rt.stdin(), &mut input)?;
+    let got = input::read_full(&mut rt.stdin(), &mut input)?;
     replayed(&rt, &input[..got])
 }
 

@@ -36,7 +36,7 @@ struct Tally {
 
 fn main(rt: HostRuntime) -> io::Result<()> {
     let mut input = [0u8; 65536];
-    let got = tell::read_full(&mut rt.stdin(), &mut input)?;
+    let got = input::read_full(&mut rt.stdin(), &mut input)?;
     replayed(&rt, &input[..got])
 }
 

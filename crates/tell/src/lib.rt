@@ -1,41 +1,20 @@
-// What the replay programs read, on standard input, and what they tell of a replay, on standard output.
+// What the replay programs tell of a replay, on standard output.
 #![tactic(auto)]
-
-ghost use Rattle.std.specs.Prelude.{◌≡◌, take, length, IfOk, IfSome};
-ghost use Rattle.std.specs.Io.{ReadsAtMost};
 
 use replay::Walk;
 use std::io;
-use std::io::Read;
 use vectors::{after_line, part};
-
-// Reads until there is no more room or the input ends, and answers how many bytes now stand at the front of the room: as many of the input's.
-pub fn read_full<R: Read>(input: &mut R, room: &mut [u8]) -> io::Result<usize>
-    ensures within { ReadsAtMost result room.new }
-    ensures front { IfOk result (λ n. IfSome (R.remaining input.old)
-        (λ given. take n room.new ≡ take (length room.new) given)) }
-{
-    let mut done: usize = 0;
-    while done < room.len() {
-        let more = input.read(&mut room[done..])?;
-        if more == 0 {
-            return Ok(done);
-        }
-        done += more;
-    }
-    Ok(done)
-}
 
 // The list's own line, the number of records, and how many disagree.
 pub fn head(rt: &impl Print, s: &[u8], w: Walk) -> io::Result<()> {
     let tally = w.tally;
     rt.write_all(part(s, 0, after_line(s)))?;
-    say(rt, b"records", tally.records)?;
-    say(rt, b"records that disagree", tally.wrong)?;
+    say(rt, "records", tally.records)?;
+    say(rt, "records that disagree", tally.wrong)?;
     if tally.wrong > 0 {
         say(
             rt,
-            b"number of the first that disagrees, from 0",
+            "number of the first that disagrees, from 0",
             tally.first,
         )?;
     }
@@ -43,27 +22,20 @@ pub fn head(rt: &impl Print, s: &[u8], w: Walk) -> io::Result<()> {
 }
 
 // A line with a name and a number.
-pub fn say(rt: &impl Print, name: &[u8], n: usize) -> io::Result<()> {
-    rt.write_all(name)?;
-    rt.write_all(b": ")?;
-    rt.println(n)
+pub fn say(rt: &impl Print, name: &str, n: usize) -> io::Result<()> {
+    println!(rt; "{name}: {n}")
 }
 
 // A line for each count from one place on and before another: a name, the place and the count.
 pub fn each(
     rt: &impl Print,
-    name: &[u8],
-    counts: &[usize; 32],
+    name: &str,
+    counts: &[usize],
     from: usize,
     to: usize,
 ) -> io::Result<()> {
-    let end = vectors::capped(to as u64, 32);
-    let mut i = from;
-    while i < end {
-        rt.write_all(name)?;
-        rt.print(i)?;
-        say(rt, b"", counts[i])?;
-        i += 1;
+    for (i, n) in counts.iter().enumerate().take(to).skip(from) {
+        println!(rt; "{name}{i}: {n}")?;
     }
     Ok(())
 }

@@ -1,28 +1,15 @@
 -- What stands at a place of a list, from what the code tests on its way. Assumes nothing.
-use mathlib.Core.Path.{◌≡◌, refl, sym}
-use mathlib.Core.Bool.{true, false, ◌&&◌}
-use mathlib.Core.List.{List, [], ◌∷◌}
-use Prim.Native.Nat.{ℕ, zero, suc, ◌+◌, ◌-◌, ◌≤◌, ◌<◌}
-use native.Mathlib.Nat.{le_of_suc-le-suc, not-suc-le-zero}
-use native.Mathlib.Numerals.{add-one}
-use native.Mathlib.Omega.{arith}
-use denote.Ref.{Bor}
-use borrow.Author.Tests.{le-leb, lt-leb, eq-eqb, ne_eqb}
-use lib.Dec.{leb}
-use lib.ListN.{length, get_or, take, drop, drop_of_length-le, get_or-eq_default}
-use lib.Seq.{drop-cons, drop-length, take-nil}
+use Rattle.std.specs.Prelude.{◌≡◌, refl, Bool, true, false, ◌&&◌, not, cond, Some, None, List, [], ◌∷◌, ℕ, suc, ◌+◌, ◌-◌, ◌≤◌, ◌<◌, min, leb, eqb, length, take, drop, position}
+use Rattle.std.specs.List.{position_or_len}
+use Rattle.std.specs.Borrow.{Bor}
+use Rattle.std.proofs.Common.{arith}
+use Rattle.std.proofs.lemmas.Bool.Decides.{nat_tests}
+use Rattle.std.proofs.lemmas.List.Quantifiers.{position-Some}
+use Rattle.std.proofs.lemmas.List.Sums.{position_or_len_is}
+use borrow.Author.Tests.{le-leb, lt-leb}
+use lib.Seq.{drop-length, take-nil}
 use Rattle.big_endian.specs.BigEndian as big
 use Rattle.vectors.specs.Vectors.{no_word, word_at, part_of, part_start, Part, after_line}
-
--- ---- an entry, with one default or another
-
-pub entry : {A : Type 0} (s : List A) (at : ℕ) (d e : A) → at < length s → get_or s at d ≡ get_or s at e
-entry [] at d e h = absurd (not-suc-le-zero h)
-entry (x ∷ s) zero d e h = refl
-entry (x ∷ s) (suc at) d e h = entry s at d e (le_of_suc-le-suc h)
-
-pub past : (s : List ℕ) (at : ℕ) (d : ℕ) → length s ≤ at → d ≡ get_or s at d
-past s at d h = sym (get_or-eq_default s d h)
 
 -- ---- four bytes
 
@@ -58,37 +45,22 @@ inside n from to h k = rw (le-leb to n h, le-leb from to k)
 pub end_empty : (s : List ℕ) → take (length s - length s) (drop (length s) s) ≡ []
 end_empty s = rw (drop-length s) (take-nil (length s - length s))
 
--- ---- the first line: i bytes without a line feed were passed
+-- ---- the first line: it ends with the first line feed
 
-pub record Passed (s : List ℕ) (i : ℕ) : Type 0 where
-  pub most : i ≤ length s
-  pub rest : after_line s ≡ i + after_line (drop i s)
+cut : (t : Bool) (m n : ℕ) → cond t 1 (suc (min (m + 1) n)) ≡ min (cond (not t) (1 + m) 0 + 1) (suc n)
+cut true m n = omega arith
+cut false m n = omega arith
 
-module _ (s : List ℕ) where
-  pub passed_none : Passed s 0
-  passed_none = record { most = omega arith; rest = omega arith }
+after_line_is : (s : List ℕ) → after_line s ≡ min (position_or_len (λ b. eqb b 10) s + 1) (length s)
+unfolding after_line
+after_line_is [] = refl
+after_line_is (b ∷ s) = rw (after_line_is s) (cut (eqb b 10) (position_or_len (λ c. eqb c 10) s) (length s))
 
-  module _ {i : ℕ} (p : Passed s i) where
-    at_feed : i < length s → get_or s i 0 ≡ 10 → after_line (drop i s) ≡ 1
-    unfolding after_line
-    at_feed h e = rw (drop-cons s i 0 h, eq-eqb (get_or s i 0) 10 e)
+pub line_found : (s : List ℕ) (i : ℕ) → position (λ b. eqb b 10) s ≡ Some i → i + 1 ≡ after_line s
+line_found s i e =
+    let f = position-Some (λ b. eqb b 10) s i 0 e in
+    let at = position_or_len_is (λ b. eqb b 10) s i 0 (omega (arith, f.0)) f.2 (λ h. f.1) in
+    omega (arith, after_line_is s, at, f.0)
 
-    at_other : i < length s → (get_or s i 0 ≡ 10 → ⊥) → after_line (drop i s) ≡ suc (after_line (drop (suc i) s))
-    unfolding after_line
-    at_other h n = rw (drop-cons s i 0 h, ne_eqb (get_or s i 0) 10 n)
-
-    at-end : length s ≤ i → after_line (drop i s) ≡ 0
-    unfolding after_line
-    at-end h = rw (drop_of_length-le s h)
-
-    pub passed_feed : i < length s → get_or s i 0 ≡ 10 → i + 1 ≡ after_line s
-    passed_feed h e = omega (arith, p.rest, at_feed h e)
-
-    pub passed_more : i < length s → (get_or s i 0 ≡ 10 → ⊥) → Passed s (i + 1)
-    passed_more h n = record {
-      most = omega arith;
-      rest = rw add-one (omega (arith, p.rest, at_other h n));
-    }
-
-    pub passed_all : length s ≤ i → i ≡ after_line s
-    passed_all h = omega (arith, p.rest, at-end h)
+pub no_line : (s : List ℕ) → position (λ b. eqb b 10) s ≡ None → length s ≡ after_line s
+no_line s e = grind (arith, nat_tests, after_line_is s)

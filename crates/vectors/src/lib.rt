@@ -2,13 +2,13 @@
 // then records of big-endian numbers, as tools/judge/README.md says. No read goes past its end.
 #![tactic(auto)]
 
-ghost use Rattle.std.specs.Prelude.{◌≡◌, cond, ◌+◌, ◌≤◌, min, eqb, leb, length};
+ghost use Rattle.std.specs.Prelude.{◌≡◌, cond, ◌+◌, ◌≤◌, min, eqb, leb, length, position};
 ghost use Rattle.std.specs.Float.{binary32};
 ghost use Rattle.std.specs.Float.Ieee.{to_bits};
 ghost use Rattle.vectors.specs.Vectors.{zeros, byte_at, word_at, Part, after_line, behind_of, float_of, float_at, entry_at};
 ghost use Rattle.vectors.specs.Counts.{sum, differs};
 
-// What stands for a byte or a word past the end: none has this value.
+// What stands for a byte or a word past the end: none has this value. No `Option`: as it stands it differs from each number and is a length past any end.
 const NO_BYTE: u64 = 256;
 
 const NO_WORD: u64 = 4294967296;
@@ -23,16 +23,13 @@ pub fn room() -> [u8; 1048576]
     [0; 1048576]
 }
 
-fn wide(b: u8) -> u64
-    ensures { (result ≡ b) × (result ≤ 255) }
-{
-    b as u64
-}
-
 pub fn byte(s: &[u8], at: usize) -> u64
     ensures { result ≡ byte_at s.now at }
 {
-    if at < s.len() { wide(s[at]) } else { NO_BYTE }
+    match s.get(at) {
+        Some(b) => u64::from(*b),
+        None => NO_BYTE,
+    }
 }
 
 // The four bytes at a place as a number, the highest first.
@@ -40,26 +37,17 @@ pub fn word(s: &[u8], at: usize) -> u64
     ensures value { result ≡ word_at s.now at }
     ensures most { result ≤ 4294967296 }
 {
-    if at > s.len() {
+    if s.len().saturating_sub(at) < 4 {
         return NO_WORD;
     }
-    if s.len() - at < 4 {
-        return NO_WORD;
-    }
-    wide32(big_endian::word_at(s, at))
+    u64::from(big_endian::word_at(s, at))
 }
 
 // The place n bytes further, and the end at most.
 pub fn skip(s: &[u8], at: usize, n: usize) -> usize
     ensures { result ≡ min (at + n) (length s.now) }
 {
-    if at > s.len() {
-        return s.len();
-    }
-    if s.len() - at < n {
-        return s.len();
-    }
-    at + n
+    at.saturating_add(n).min(s.len())
 }
 
 // The word so many bytes behind a place.
@@ -98,18 +86,21 @@ pub fn sized(s: &[u8], at: usize) -> &[u8]
     part(s, skip(s, at, 4), behind(s, at))
 }
 
+// The place of the first line feed.
+fn line_feed(s: &[u8]) -> Option<usize>
+    ensures { result ≡ position (λ b. eqb b 10) s.now }
+{
+    s.iter().position(|b| *b == b'\n')
+}
+
 // The place after the first line.
 pub fn after_line(s: &[u8]) -> usize
     ensures { result ≡ after_line s.now }
 {
-    let mut i = 0;
-    while i < s.len() {
-        if s[i] == b'\n' {
-            return i + 1;
-        }
-        i += 1;
+    match line_feed(s) {
+        Some(i) => i + 1,
+        None => s.len(),
     }
-    i
 }
 
 // The bits of a float. A NaN's are 7FC00000.
@@ -117,56 +108,50 @@ pub fn bits(x: f32) -> u64
     ensures value { result ≡ to_bits binary32 x }
     ensures most { result ≤ 4294967295 }
 {
-    wide32(big_endian::bits(x))
-}
-
-fn wide32(x: u32) -> u64
-    ensures { (result ≡ x) × (result ≤ 4294967295) }
-{
-    x as u64
+    u64::from(big_endian::bits(x))
 }
 
 // The float of a bit pattern, and a NaN for a NaN's or for no word.
 pub fn float(bits: u64) -> f32
     ensures { result ≡ float_of bits }
 {
-    if bits < NO_WORD {
-        return big_endian::float(bits as u32);
+    match u32::try_from(bits) {
+        Ok(bits) => big_endian::float(bits),
+        Err(_) => f32::NAN,
     }
-    0.0 / 0.0
 }
 
 // An entry's bits, or no word where there is none.
 pub fn float_at(t: &[f32], i: usize) -> u64
     ensures { result ≡ float_at t.now i }
 {
-    if i < t.len() { bits(t[i]) } else { NO_WORD }
+    match t.get(i) {
+        Some(x) => bits(*x),
+        None => NO_WORD,
+    }
 }
 
 pub fn word_at(t: &[u32], i: usize) -> u64
     ensures { result ≡ entry_at t.now i }
 {
-    if i < t.len() { wide32(t[i]) } else { NO_WORD }
+    match t.get(i) {
+        Some(x) => u64::from(*x),
+        None => NO_WORD,
+    }
 }
 
 // 1 where two numbers differ.
 pub fn differ(a: u64, b: u64) -> usize
     ensures { result ≡ differs a b }
 {
-    if a == b { 0 } else { 1 }
+    usize::from(a != b)
 }
 
 // A sum of two counts.
 pub fn plus(a: usize, b: usize) -> usize
     ensures { result ≡ sum a b }
 {
-    if a > MOST {
-        return MOST;
-    }
-    if MOST - a < b {
-        return MOST;
-    }
-    a + b
+    a.saturating_add(b).min(MOST)
 }
 
 // A number that a list states, and 0 where it is more than may be.

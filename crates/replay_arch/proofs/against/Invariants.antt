@@ -1,9 +1,6 @@
 -- `replay_arch::against`: the shares end within the list.
-use Rattle.std.proofs.Common.{◌-◌, ◌*◌, ◌≤◌, ◌≡◌, length}
+use Rattle.std.proofs.Common.{◌≡◌, ◌*◌, ◌≤◌, length}
 use Rattle.replay_arch.proofs.against.Given as goal
 
 abbrev pub invariant-loop-i : goal.invariant-loop-i
-invariant-loop-i l = (l.i ≤ 8) × (l.a ≤ 128 * l.i) × (length l.second ≡ 1024)
-
-abbrev pub decreases-loop-i : goal.decreases-loop-i
-decreases-loop-i l = 8 - l.i
+invariant-loop-i l = (l.begin ≤ 128 * l.i) × (length l.second ≡ 1024)

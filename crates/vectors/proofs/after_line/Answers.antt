@@ -1,12 +1,10 @@
 -- `vectors::after_line` meets its contract: it stops behind the first line feed, or at the end. Assumes nothing.
-use Rattle.vectors.proofs.Places.{passed_feed, passed_more, passed_all}
+use Rattle.std.proofs.Common.{sym, ◌∙◌}
+use Rattle.vectors.proofs.Places.{line_found, no_line}
 use Rattle.vectors.proofs.after_line.Goals as goal
 
-pub returns-then-s-i-eq10 : goal.returns-then-s-i-eq10
-returns-then-s-i-eq10 c = passed_feed _ c.loop-i.invariant c.loop-i-test.true c.if-s-i-eq10.true
+pub returns-in-Some : goal.returns-in-Some
+returns-in-Some c = line_found _ _ (sym c.line_feed.ensures ∙ c.in-Some.is)
 
-pub loop-i-preserved : goal.loop-i-preserved
-loop-i-preserved c = passed_more _ c.loop-i.invariant c.loop-i-test.true c.if-s-i-eq10.false
-
-pub returns : goal.returns
-returns c = passed_all _ c.loop-i.invariant c.loop-i-test.false
+pub returns-in-None : goal.returns-in-None
+returns-in-None c = no_line _ (sym c.line_feed.ensures ∙ c.in-None.is)

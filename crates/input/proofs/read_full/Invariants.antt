@@ -1,7 +1,7 @@
--- `tell::read_full`: what stands at the front is what was read.
+-- `input::read_full`: what stands at the front is what was read.
 use Rattle.std.proofs.Common.{length, ◌-◌, ◌≤◌, take, ◌≡◌}
 use Rattle.std.specs.Io.KnownBytes.{Consumes}
-use Rattle.tell.proofs.read_full.Given as goal
+use Rattle.input.proofs.read_full.Given as goal
 
 abbrev pub invariant-loop-done : goal.invariant-loop-done
 invariant-loop-done g l =

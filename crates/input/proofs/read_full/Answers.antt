@@ -1,7 +1,7 @@
--- `tell::read_full`: each turn adds what was read.
+-- `input::read_full`: each turn adds what was read.
 use Rattle.std.proofs.Common.{rules}
-use Rattle.tell.proofs.Reading.{read_more}
-use Rattle.tell.proofs.read_full.Goals as goal
+use Rattle.input.proofs.Reading.{read_more}
+use Rattle.input.proofs.read_full.Goals as goal
 
 pub loop-done-preserved : goal.loop-done-preserved
 loop-done-preserved g c =
