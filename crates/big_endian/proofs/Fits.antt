@@ -1,14 +1,15 @@
 -- What is put where it fits, for callers; what is put where it does not; and that a buffer keeps its length. Assumes
 -- nothing.
-use mathlib.Core.Path.{◌≡◌, refl}
+use Rattle.std.proofs.Common.{◌≡◌, refl, ap, append_assoc, arith, [], ◌∷◌}
 use mathlib.Core.Bool.{Bool, true, false, cond}
 use mathlib.Core.List.{List}
-use Prim.Native.Nat.{ℕ, ◌+◌, ◌/◌, ◌%◌, ◌≤◌, ◌<◌}
-use native.Mathlib.Numerals.{add-one, add-two, add-three}
+use Prim.Native.Nat.{ℕ, ◌+◌, ◌-◌, ◌/◌, ◌%◌, ◌≤◌, ◌<◌}
 use borrow.Author.Tests.{le-leb, lt-leb}
 use lib.Dec.{leb}
-use lib.ListN.{length, set}
-use lib.Seq.{sets, length-sets}
+use lib.ListN.{length}
+use lib.Seq.{sets, sets-eq, length-sets}
+use borrow.Rule.Slice.PartMut.{put_mid, Post-is}
+use Rattle.std.specs.Int.{to_be_bytes, w16, w32}
 use Rattle.big_endian.specs.BigEndian.{half_bytes, word_bytes, put_at}
 
 module _ (at : ℕ) (bytes old : List ℕ) where
@@ -28,13 +29,16 @@ module _ (at : ℕ) (bytes old : List ℕ) where
       either true = length-sets old at bytes
       either false = refl
 
--- ---- the stores of a number's bytes, one by one
+-- ---- the bytes are copied into the part of the buffer that they fill
 
-module _ (at n : ℕ) (old : List ℕ) where
-  pub half-put : at + 2 ≤ length old → set (set old at (n / 256)) (at + 1) (n % 256) ≡ put_at at (half_bytes n) old
-  half-put h = rw (put_plain at (half_bytes n) old h, add-one)
+module _ (at : ℕ) (bytes old : List ℕ) where
+  pub part_put : at + length bytes ≤ length old → put_mid at (at + length bytes - at) old bytes ≡ put_at at bytes old
+  part_put h = rw (put_plain at bytes old h, sets-eq bytes old at h, append_assoc, Post-is at (at + length bytes) old (omega arith))
 
-  pub word-put : at + 4 ≤ length old
-      → set (set (set (set old at (n / 16777216)) (at + 1) (n / 65536 % 256)) (at + 2) (n / 256 % 256)) (at + 3) (n % 256)
-      ≡ put_at at (word_bytes n) old
-  word-put h = rw (put_plain at (word_bytes n) old h, add-one, add-two, add-three)
+-- ---- the bytes of a number
+
+pub half_is : (n : ℕ) → n < 65536 → to_be_bytes w16 n ≡ half_bytes n
+half_is n h = ap (λ (b : ℕ). b ∷ n % 256 ∷ []) (omega arith)
+
+pub word_is : (n : ℕ) → n < 4294967296 → to_be_bytes w32 n ≡ word_bytes n
+word_is n h = ap (λ (b : ℕ). b ∷ n / 65536 % 256 ∷ n / 256 % 256 ∷ n % 256 ∷ []) (omega arith)

@@ -1,13 +1,13 @@
--- Laws of numbers in bytes: a number's bytes read back, bytes as the number's that they are, what stands past the end,
+-- Laws of numbers in bytes: a number's bytes read back, bytes as the number's that they are,
 -- and a list opened byte by byte. Assumes nothing.
 use mathlib.Core.Path.{◌≡◌, refl, ap, ◌∙◌}
 use mathlib.Core.List.{List, [], ◌∷◌}
 use Prim.Native.Nat.{ℕ, zero, suc, ◌+◌, ◌*◌, ◌/◌, ◌%◌, ◌≤◌, ◌<◌}
 use native.Mathlib.Omega.{arith}
 use lib.Dec.{lit<}
-use lib.ListN.{length, drop, get_or-eq_default}
+use lib.ListN.{length, drop}
 use lib.Seq.{drop-cons}
-use Rattle.big_endian.specs.BigEndian.{byte_at, half_at, word_at}
+use Rattle.big_endian.specs.BigEndian.{byte_at}
 
 -- ---- the bytes of a number, read back
 
@@ -33,26 +33,8 @@ pub word_back : (a b c d : ℕ) → b < 256 → c < 256 → d < 256 → let n = 
     (n / 16777216 ≡ a) × (n / 65536 % 256 ≡ b) × (n / 256 % 256 ≡ c) × (n % 256 ≡ d)
 word_back a b c d h i j = omega arith
 
-pub half-below : (a b : ℕ) → a < 256 → b < 256 → a * 256 + b < 65536
-half-below a b h i = omega arith
-
 pub word_below : (a b c d : ℕ) → a < 256 → b < 256 → c < 256 → d < 256 → (a * 256 + b) * 65536 + (c * 256 + d) < 4294967296
 word_below a b c d g h i j = omega arith
-
--- ---- past the end
-
-pub byte_past : (s : List ℕ) (at : ℕ) → length s ≤ at → byte_at s at ≡ 0
-byte_past s at h = get_or-eq_default s 0 h
-
-pub half_past : (s : List ℕ) (at : ℕ) → length s ≤ at → half_at s at ≡ 0
-half_past s at h = omega (arith, byte_past s at h, byte_past s (at + 1) (omega arith))
-
-pub word_past : (s : List ℕ) (at : ℕ) → length s ≤ at → word_at s at ≡ 0
-word_past s at h = omega (arith, half_past s at h, half_past s (at + 2) (omega arith))
-
--- two bytes are the last ones
-pub word-short : (s : List ℕ) (at : ℕ) {a : ℕ} → length s ≤ at + 2 → a ≡ half_at s at → a * 65536 ≡ word_at s at
-word-short s at h e = omega (arith, half_past s (at + 2) h)
 
 -- ---- a list of bytes
 

@@ -60,10 +60,8 @@ fn print<W: Write>(to: &mut W, outcome: Outcome, list: &[f32; 768]) -> io::Resul
     ensures { OnOk result (Appends (W.contents to.old) (W.contents to.new) (concat (printed 3 outcome list.now))) }
 {
     let many = lines::lines(outcome, list);
-    let mut i = 0;
-    while i < many {
+    for i in 0..many {
         print_line(to, outcome, list, i)?;
-        i += 1;
     }
     Ok(())
 }
@@ -72,7 +70,5 @@ fn print_line<W: Write>(to: &mut W, outcome: Outcome, list: &[f32; 768], i: usiz
     ensures { OnOk result (Appends (W.contents to.old) (W.contents to.new) (get_or (printed 3 outcome list.now) i [])) }
 {
     let line = lines::line_at(outcome, list, i);
-    let bytes = line.bytes;
-    let len = line.len;
-    to.write_all(&bytes[..len])
+    to.write_all(&line.bytes[..line.len])
 }

@@ -1,14 +1,15 @@
 -- The printed numerals are the usual ones: their value is the number, every digit is below the base, no needless zero
 -- leads, and so many digits they have. Assumes nothing.
 use mathlib.Core.Path.{◌≡◌, refl, sym, ap, ◌∙◌}
-use mathlib.Core.Bool.{Bool, true, false, ◌&&◌}
+use mathlib.Core.Bool.{Bool, true, false, ◌&&◌, and-false}
 use mathlib.Core.List.{List, [], ◌∷◌, ◌++◌, map}
+use mathlib.Core.Logic.{◌⊎◌, inl, inr}
 use Prim.Native.Nat.{ℕ, zero, suc, ◌+◌, ◌-◌, ◌*◌, ◌/◌, ◌%◌, ◌^◌, ◌≤◌, ◌<◌}
 use native.Mathlib.Nat.{div-lt_self, div-le_self, div-lt_iff_lt-mul, div-add-mod', le-div_iff_mul-le, mod-lt}
 use native.Mathlib.Nat.{pow-zero, pow-suc, zero-mul, one-mul}
 use native.Mathlib.Omega.{arith}
 use native.Mathlib.Decide.{dec_lt}
-use borrow.Author.Tests.{ltb-true, ltb-false, leb-true, leb-false}
+use borrow.Author.Tests.{lt-ltb, le-ltb, le-leb, lt-leb, ltb-true, ltb-false, leb-true, leb-false}
 use lib.Dec.{ltb, leb}
 use lib.ListN.{length, get_or, length-append, get_or-append}
 use Rattle.lines.specs.Printed.{digits_in, digits, digit_of, numeral}
@@ -16,6 +17,13 @@ use Rattle.lines.specs.Printed.{digits_in, digits, digit_of, numeral}
 -- a single digit is enough
 abbrev pub single : ℕ → ℕ → ℕ → Bool
 single base least n = ltb n base && leb least 1
+
+pub single_is : (base least n : ℕ) → n < base → least ≤ 1 → single base least n ≡ true
+single_is base least n h i = rw (lt-ltb n base h, le-leb least 1 i)
+
+pub not_single : (base least n : ℕ) → ((n < base) × (1 < least)) ⊎ (base ≤ n) → single base least n ≡ false
+not_single base least n (inl h) = rw (lt-leb least 1 h.1) (and-false (ltb n base))
+not_single base least n (inr h) = rw (le-ltb n base h)
 
 both : (a b : Bool) → a && b ≡ true → (a ≡ true) × (b ≡ true)
 both true b e = (refl, e)

@@ -1,7 +1,10 @@
 -- Which line of the printed ones stands at a number, and how many there are. Assumes nothing.
 use mathlib.Core.Path.{◌≡◌, refl, sym, ap, subst, ◌∙◌}
-use mathlib.Core.Bool.{Bool, true, false}
+use mathlib.Core.Bool.{Bool, true, false, true≢false}
+use denote.Enum.Bare.{sameb}
+use Rattle.params.specs.contracts.answers.Answer.{the_type}
 use mathlib.Core.List.{List, [], ◌∷◌, ◌++◌}
+use mathlib.Core.Logic.{◌⊎◌, inl, inr}
 use Prim.Native.Nat.{ℕ, zero, suc, ◌+◌, ◌-◌, ◌*◌, ◌≤◌, ◌<◌}
 use native.Mathlib.Nat.{le_of_suc-le-suc, not-suc-le-zero, suc-mul, zero-mul, add_comm}
 use native.Mathlib.Omega.{arith}
@@ -10,6 +13,8 @@ use lib.Dec.{eqb}
 use lib.Ieee.{Float}
 use lib.ListN.{length, get_or, take, drop, length-append, get_or-append, get_or-eq_default}
 use lib.Seq.{get_or-append-add, drop-drop, drop-cons}
+use Rattle.params.specs.declared.answers.Answer.{Answer}
+use Rattle.params.specs.declared.answers.Answer.TheVariants.{Complete, ListFull}
 use Rattle.params.specs.declared.answers.Outcome.{Outcome}
 use Rattle.params.specs.Answers.{number_of}
 use Rattle.lines.specs.declared.Line.{Line}
@@ -49,6 +54,9 @@ three list at d h =
 
 -- ---- a refusal's only line
 
+pub refusal_number : (a : Answer) → (a ≡ Complete → ⊥) → (a ≡ ListFull → ⊥) → 1 < number_of a
+refusal_number a h i = grind arith
+
 -- n is the answer's number, and it is a refusal's
 pub record Refusal (o : Outcome) (n : ℕ) : Type 0 where
   pub number : n ≡ number_of o.answer
@@ -76,6 +84,23 @@ pub record Listing (stride : ℕ) (o : Outcome) (list : List Float) (n corners :
   pub number : n ≡ number_of o.answer
   pub few : n ≤ 1
   pub all : corners ≡ stored stride o.count list
+
+few : (a : Answer) → (a ≡ Complete) ⊎ (a ≡ ListFull) → number_of a ≤ 1
+few a (inl e) = rw e (omega arith)
+few a (inr e) = rw e (omega arith)
+
+-- `==` of an answer that is one of these
+pub is_full : (a : Answer) → (a ≡ Complete) ⊎ (a ≡ ListFull) → true ≡ sameb the_type a ListFull → number_of a ≡ 1
+is_full a (inl e) h = absurd (true≢false (rw e at h))
+is_full a (inr e) h = rw e
+
+pub not_full : (a : Answer) → (a ≡ Complete) ⊎ (a ≡ ListFull) → false ≡ sameb the_type a ListFull → number_of a ≡ 1 → ⊥
+not_full a (inl e) h z = let k : ◌≡◌ {A = ℕ} 0 1 = rw e at z in omega arith
+not_full a (inr e) h z = absurd (true≢false (sym (rw e at h)))
+
+pub listing : {stride : ℕ} {o : Outcome} {list : List Float} {corners : ℕ} → (o.answer ≡ Complete) ⊎ (o.answer ≡ ListFull)
+    → corners ≡ stored stride o.count list → Listing stride o list (number_of o.answer) corners
+listing taken e = record { number = refl; few = few _ taken; all = e }
 
 module _ {stride : ℕ} {o : Outcome} {list : List Float} {n corners : ℕ} (l : Listing stride o list n corners) where
   -- the corners' lines, and the one behind them

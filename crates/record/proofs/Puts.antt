@@ -7,7 +7,7 @@ use native.Mathlib.Numerals.{add-one}
 use native.Mathlib.Omega.{arith}
 use lib.Ieee.{Float, nan, binary32, to_bits}
 use lib.ListN.{length, get_or, set, take, length-set}
-use lib.Seq.{sets, take-suc, length-take-le}
+use lib.Seq.{sets, take-suc, take_all, length-take-le}
 use Rattle.grid.specs.Over.{over}
 use Rattle.grid.proofs.Each.{each_none, each_more, length-each}
 use Rattle.grid.proofs.Over.{over_none, over_sets}
@@ -57,22 +57,22 @@ pub bytes_long : (l : List Float) → length (bytes_of l) ≡ 4 * length l
 unfolding bytes_of
 bytes_long l = length-each 4 enc (λ x. refl) l
 
-abbrev pub Putting : List Float → ℕ → List ℕ → List ℕ → ℕ → Type 0
-Putting l n = Steps 0 n (λ i old. sets old head (bytes_of (take i l)))
+abbrev pub Putting : List Float → List ℕ → List ℕ → ℕ → Type 0
+Putting l = Steps 0 (length l) (λ i old. sets old head (bytes_of (take i l)))
 
-module _ (l : List Float) (n : ℕ) where
-  pub putting_none : (old : List ℕ) → Putting l n old old 0
+module _ (l : List Float) where
+  pub putting_none : (old : List ℕ) → Putting l old old 0
   unfolding bytes_of
   putting_none old = record { least = omega arith; most = omega arith; fill = rw each_none; long = refl }
 
-  module _ {old out : List ℕ} {i : ℕ} (r : Putting l n old out i) (within : n ≤ length l) (room : head + 4 * n ≤ length old) (more : i < n) where
+  module _ {old out : List ℕ} {i : ℕ} (r : Putting l old out i) (room : head + 4 * length l ≤ length old) (more : i < length l) where
     -- `next` is the output with number i put
     pub putting_more : {next : List ℕ} {b : ℕ} → b ≡ to_bits binary32 (get_or l i nan) → next ≡ put_at (head + 4 * i) (word_bytes b) out
-        → Putting l n old next (i + 1)
+        → Putting l old next (i + 1)
     putting_more {next} {b} e q = record {
       least = omega arith;
       most = omega arith;
-      fill = q ∙ put ∙ rw (bytes_more l i (omega arith), r.fill, e) turn;
+      fill = q ∙ put ∙ rw (bytes_more l i more, r.fill, e) turn;
       long = rw q (length-put (head + 4 * i) (word_bytes b) out) ∙ r.long;
     }
       where
@@ -86,8 +86,8 @@ module _ (l : List Float) (n : ℕ) where
             ≡ sets old head (bytes_of (take i l) ++ enc (get_or l i nan))
         turn = rw at (sets_more (bytes_of (take i l)) (enc (get_or l i nan)) old head)
 
-  pub putting_all : {old out : List ℕ} {i : ℕ} → Putting l n old out i → n ≤ i → out ≡ sets old head (bytes_of (take n l))
-  putting_all r m = steps_all r m
+  pub putting_all : {old out : List ℕ} {i : ℕ} → Putting l old out i → length l ≤ i → out ≡ sets old head (bytes_of l)
+  putting_all {old} r m = steps_all r m ∙ ap (λ (t : List Float). sets old head (bytes_of t)) (take_all (length l) l (omega arith))
 
 -- ---- both
 

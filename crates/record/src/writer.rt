@@ -1,7 +1,8 @@
 // The writer: which lists are taken, and the record of one.
-ghost use Rattle.std.specs.Prelude.{◌≡◌, ◌+◌, ◌*◌, ◌≤◌, length, take};
+ghost use Rattle.std.specs.Prelude.{◌≡◌, ◌+◌, ◌*◌, ◌≤◌, length};
 ghost use Rattle.std.proofs.lemmas.List.Edits.{sets};
 ghost use Rattle.grid.specs.Over.{over};
+ghost use Rattle.params.specs.Refusals.{as_result};
 ghost use Rattle.record.specs.Record.{version, stride, following, head_of, bytes_of, write_refusal, write_outcome, written};
 
 use crate::numbers::stray_in_list;
@@ -10,20 +11,21 @@ use big_endian::{bits, put_half, put_word};
 use params::{Answer, Outcome, Verdicts};
 
 // Answers 18 to 20, the lowest that applies: `room` is the output's length. Numbers beyond the whole corners are not looked at.
-fn judge_list(list: &[f32], room: usize) -> Answer
-    ensures { result ≡ write_refusal stride list.now room }
+#[tactic(auto, unfolding(crate::specs::Record::write_refusal))]
+fn judge_list(list: &[f32], room: usize) -> Result<(), Answer>
+    ensures { result ≡ as_result (write_refusal stride list.now room) }
 {
     let count = list.len() / STRIDE;
     if count > MOST {
-        return Answer::CornerCount;
+        return Err(Answer::CornerCount);
     }
-    if stray_in_list(list, STRIDE * count) {
-        return Answer::NotFinite;
+    if stray_in_list(&list[..STRIDE * count]) {
+        return Err(Answer::NotFinite);
     }
     if room < HEAD + WORD * (STRIDE * count) {
-        return Answer::OutputTooShort;
+        return Err(Answer::OutputTooShort);
     }
-    Answer::Complete
+    Ok(())
 }
 
 // How many bytes follow the stated length, where there are that many corners.
@@ -46,15 +48,13 @@ fn put_head(out: &mut [u8], w: u16, h: u16, count: usize)
     put_word(out, 9, count as u32);
 }
 
-// The bits of the first n numbers of a list, behind those bytes.
-fn put_numbers(list: &[f32], n: usize, out: &mut [u8])
-    requires { (n ≤ length list.now) × (13 + 4 * n ≤ length out.old) }
-    ensures { out.new ≡ sets out.old 13 (bytes_of (take n list.now)) }
+// The bits of a list's numbers, behind those bytes.
+fn put_numbers(list: &[f32], out: &mut [u8])
+    requires { 13 + 4 * length list.now ≤ length out.old }
+    ensures { out.new ≡ sets out.old 13 (bytes_of list.now) }
 {
-    let mut i = 0;
-    while i < n {
-        put_word(out, HEAD + WORD * i, bits(list[i]));
-        i += 1;
+    for (i, x) in list.iter().enumerate() {
+        put_word(out, HEAD + WORD * i, bits(*x));
     }
 }
 
@@ -63,18 +63,17 @@ pub fn write_record(w: u16, h: u16, list: &[f32], out: &mut [u8]) -> Outcome
     ensures outcome { result ≡ write_outcome stride w h list.now (length out.old) }
     ensures output { out.new ≡ written version stride w h list.now out.old }
 {
-    let answer = judge_list(list, out.len());
-    if answer.number() != 0 {
+    if let Err(answer) = judge_list(list, out.len()) {
         return Outcome::refusal(answer);
     }
     let count = list.len() / STRIDE;
     put_head(out, w, h, count);
-    put_numbers(list, STRIDE * count, out);
+    put_numbers(&list[..STRIDE * count], out);
     Outcome {
-        answer,
+        answer: Answer::Complete,
         count,
-        w: w as usize,
-        h: h as usize,
+        w: usize::from(w),
+        h: usize::from(h),
         verdicts: Verdicts::none(),
     }
 }

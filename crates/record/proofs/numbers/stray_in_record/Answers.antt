@@ -1,18 +1,13 @@
--- `record::numbers::stray_in_record` meets its contract. The invariant: no number before i is one. Assumes nothing.
-use Rattle.std.proofs.Common.{not, ap, ◌∙◌}
-use lib.Ieee.Scale.{finite}
-use Rattle.record.proofs.Strays.{sought_none, sought_more, sought_found, not_by}
+-- `record::numbers::stray_in_record` meets its contract: `any` along the places. Assumes nothing.
+use Rattle.std.proofs.Common.{rules, ◌∙◌, refl, arith}
+use Rattle.std.proofs.lemmas.Iterator.{YieldsList-from_range}
+use Rattle.std.proofs.lemmas.Iterator.Search.{any_from_yields_List}
+use Rattle.record.specs.Record.{stray, number_in}
+use Rattle.record.proofs.Strays.{stray-is, any_range-is}
 use Rattle.record.proofs.numbers.stray_in_record.Goals as goal
 
-pub loop-i-init : goal.loop-i-init
-loop-i-init c = sought_none _ _
-
-pub returns-then-not-is_finite : goal.returns-then-not-is_finite
-returns-then-not-is_finite c =
-    sought_found _ c.loop-i.invariant c.loop-i-test.true
-    (not_by (c.is_finite.ensures ∙ ap finite c.number_in.ensures) (ap not c.if-not-is_finite.true))
-
-pub loop-i-preserved : goal.loop-i-preserved
-loop-i-preserved c =
-    sought_more _ c.loop-i.invariant c.loop-i-test.true
-    (not_by (c.is_finite.ensures ∙ ap finite c.number_in.ensures) (ap not c.if-not-is_finite.false))
+pub returns : goal.returns
+returns c =
+    any_from_yields_List (λ i. stray (number_in c.args.file.now i)) _ _ _ c.any.ensures.ran (YieldsList-from_range 0 c.args.n c.args.n refl (omega arith))
+    (λ x b q k. search (rules, stray-is))
+    ∙ any_range-is _ _

@@ -1,26 +1,26 @@
 -- `record::reader::read_record` meets its contract: what the judge refuses is left, and all else is read. Assumes nothing.
-use native.Mathlib.Omega.{arith}
+use Rattle.std.proofs.Common.{sym, ◌∙◌, arith}
 use Rattle.record.specs.Record.{version, stride}
 use Rattle.record.proofs.Calls.{read_refused, fill_may, read_done}
 use Rattle.record.proofs.reader.read_record.Goals as goal
 
-pub returns-then-number-ne0-clause-outcome : goal.returns-then-number-ne0-clause-outcome
-returns-then-number-ne0-clause-outcome c = (read_refused version stride _ _ c.judge_record-answer.ensures c.number.ensures c.if-number-ne0.true c.refusal.ensures).0
+pub returns-in-Err-clause-outcome : goal.returns-in-Err-clause-outcome
+returns-in-Err-clause-outcome c = (read_refused version stride _ _ (sym c.judge_record.ensures ∙ c.in-Err.is) c.refusal.ensures).0
 
-pub returns-then-number-ne0-clause-list : goal.returns-then-number-ne0-clause-list
-returns-then-number-ne0-clause-list c = (read_refused version stride _ _ c.judge_record-answer.ensures c.number.ensures c.if-number-ne0.true c.refusal.ensures).1
+pub returns-in-Err-clause-list : goal.returns-in-Err-clause-list
+returns-in-Err-clause-list c = (read_refused version stride _ _ (sym c.judge_record.ensures ∙ c.in-Err.is) c.refusal.ensures).1
 
 pub fill-requires : goal.fill-requires
 fill-requires c =
-    let fits = fill_may version stride _ _ c.judge_record-answer.ensures c.number.ensures c.if-number-ne0.false c.count_in-count.ensures.0 in
+    let fits = fill_may version stride _ _ (sym c.judge_record.ensures ∙ c.in_default.is) c.count_in-count.ensures.0 in
     (fits, omega arith)
 
 pub returns-clause-outcome : goal.returns-clause-outcome
 returns-clause-outcome c =
-    (read_done version stride _ _ c.judge_record-answer.ensures c.number.ensures c.if-number-ne0.false
+    (read_done version stride _ _ (sym c.judge_record.ensures ∙ c.in_default.is)
     c.count_in-count.ensures.0 c.half_at.ensures.0 c.half_at-2.ensures.0 c.fill.ensures c.none.ensures).0
 
 pub returns-clause-list : goal.returns-clause-list
 returns-clause-list c =
-    (read_done version stride _ _ c.judge_record-answer.ensures c.number.ensures c.if-number-ne0.false
+    (read_done version stride _ _ (sym c.judge_record.ensures ∙ c.in_default.is)
     c.count_in-count.ensures.0 c.half_at.ensures.0 c.half_at-2.ensures.0 c.fill.ensures c.none.ensures).1

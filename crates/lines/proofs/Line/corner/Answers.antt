@@ -1,4 +1,4 @@
--- `lines::text::corner` meets its contract: three patterns of bits. Assumes nothing.
+-- `lines::Line::corner` meets its contract: three patterns of bits. Assumes nothing.
 use mathlib.Core.Path.{◌≡◌}
 use mathlib.Core.List.{[], ◌∷◌}
 use Prim.Native.Nat.{ℕ}
@@ -6,7 +6,7 @@ use lib.Ieee.{Float, binary32, to_bits}
 use Rattle.lines.specs.declared.Line.{Line}
 use Rattle.lines.specs.Printed.{numeral, row, corner_line}
 use Rattle.lines.specs.Lines.{Shows}
-use Rattle.lines.proofs.text.corner.Goals as goal
+use Rattle.lines.proofs.Line.corner.Goals as goal
 
 three-words : {a b c : ℕ} (x y z : Float) {r : Line}
     → a ≡ to_bits binary32 x → b ≡ to_bits binary32 y → c ≡ to_bits binary32 z

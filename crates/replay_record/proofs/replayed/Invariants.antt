@@ -1,5 +1,0 @@
--- `replay_record::replayed`: it ends with the last record.
-use Rattle.replay_record.proofs.replayed.Given as goal
-
-abbrev pub decreases-loop-c : goal.decreases-loop-c
-decreases-loop-c g l = l.walk.left
