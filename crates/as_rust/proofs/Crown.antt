@@ -31,7 +31,7 @@ use Rattle.params.specs.Settings.{existing_sites, factor_of, ray_of}
 use Rattle.params.specs.Answers.{number_of}
 use Rattle.params.proofs.Accepted.{map_accepted, all_accepted}
 use Rattle.scalar.specs.Log.{log_of, terms, high, lowest, highest, difference, units_of, cut_third}
-use Rattle.scalar.specs.declared.Log.TheVariants.{Value}
+use Rattle.std.specs.Prelude.{Some}
 use Rattle.scalar.proofs.Facts.{log_inside}
 use Rattle.response.proofs.Runs.{Runs, runs_of}
 use Rattle.response.specs.Map.{Buffers as MapBuffers, answered as map-answered, map_buffers_of, mapped_of, mapped_by, work_of, map_of, side_of, room_of}
@@ -309,6 +309,6 @@ ours_logs img w h p b small z x y c d t =
     go (map_range (factor_of p.image_upsample) (ray_of p.ray_radius) p.response_blur_radius (pixel img w) w h
     (λ x y. omega (arith, small (y * w + x))) r.ray-most r.blur_most x y c d)
   where
-    go : Good (map_of (pixel img w) w h p x y) → log_of terms high (map_of (pixel img w) w h p x y) ≡ Value (ours.ln (map_of (pixel img w) w h p x y))
+    go : Good (map_of (pixel img w) w h p x y) → log_of terms high (map_of (pixel img w) w h p x y) ≡ Some (ours.ln (map_of (pixel img w) w h p x y))
     go (inl e) = absurd (rw (e, lt_itself) at t)
     go (inr g) = log_inside terms high (map_of (pixel img w) w h p x y) (T_true (le lowest _) g.0) (T_true (le _ (highest high)) g.1)

@@ -24,7 +24,7 @@ use Rattle.params.specs.Settings.{factor_of, ray_of, border_of}
 use Rattle.params.specs.Coordinates.{to_input, scale_of}
 use Rattle.params.proofs.Accepted.{ListPasses}
 use Rattle.scalar.specs.Log.{log_of, terms, high}
-use Rattle.scalar.specs.declared.Log.TheVariants.{Value}
+use Rattle.std.specs.Prelude.{Some}
 use Rattle.peak_fit.specs.PeakFit.{flat, denominator, usable, all_usable, all_above, fit_of}
 use Rattle.grid.specs.Ways.{value}
 use Rattle.verdict.specs.Window.{beaten, positives}
@@ -69,7 +69,7 @@ peak_is ym y0 yp = λ i. cond (lt flat (denominator ym y0 yp)) lit_0 (clamp-is (
 
 -- the machine's logarithm of v is ours
 abbrev pub Logs : Machine → Float → Type 0
-Logs m v = T (lt lit_0 v) → log_of terms high v ≡ Value (m.ln v)
+Logs m v = T (lt lit_0 v) → log_of terms high v ≡ Some (m.ln v)
 
 three : (a b c : Bool) → T (a && (b && c)) → T a × T b × T c
 three true true true t = (tt, tt, tt)

@@ -13,7 +13,7 @@ use lib.Ieee.Bits.{of_bits-to_bits, of_bits-fits}
 use lib.Pow.{pow_pos}
 use Rattle.scalar.specs.Bits.{infinite, val}
 use Rattle.scalar.specs.Root.{fourfold, root_bits, root_of}
-use Rattle.scalar.specs.declared.Root.TheVariants.{Value, Outside}
+use Rattle.std.specs.Prelude.{Some, None}
 use Rattle.scalar.proofs.Patterns.{val_lt, val_mono, val_is, finite_below, worth}
 use Rattle.scalar.proofs.Facts.{root_below, nearer_than_below, nearer_than_above}
 use Rattle.as_rust.specs.Root.{plus, top, bottom, sum_top, sum-bottom, Nearest, NearestRoots}
@@ -213,11 +213,11 @@ module _ (x : Float) (X : Pattern x) where
           absurd (lt_irrefl _ (lt_trans near far))
       same (no k) (no l) = omega arith
 
-not_value : (r : Float) → Outside ≡ Value r → ⊥
+not_value : (r : Float) → None ≡ Some r → ⊥
 not_value r e = let z : ◌≡◌ {A = ℕ} 0 1 = cc in omega arith
 
 -- a root that is the nearest is document 01's
-pub root_is : (sqrt : Float → Float) → NearestRoots sqrt → (x r : Float) → T (fits binary32 x) → root_of x ≡ Value r → sqrt x ≡ r
+pub root_is : (sqrt : Float → Float) → NearestRoots sqrt → (x r : Float) → T (fits binary32 x) → root_of x ≡ Some r → sqrt x ≡ r
 unfolding root_of
 root_is sqrt near nan r f e = absurd (not_value r e)
 root_is sqrt near (inf s) r f e = absurd (not_value r e)

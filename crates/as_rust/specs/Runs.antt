@@ -1,6 +1,6 @@
 -- What is claimed: a call of ours and a run of the Rust's two functions, over any buffers of the Rust's, leave the same. Ours is what the contracts
 -- say (crates/radon/specs/Finder, crates/response/specs/Map); the Rust's is the text of this folder.
-use Rattle.std.specs.Prelude.{◌≡◌, List, [], ◌∷◌, map, ℕ, ◌+◌, ◌-◌, ◌*◌, ◌<◌, T, length, take, pos, Float}
+use Rattle.std.specs.Prelude.{◌≡◌, List, [], ◌∷◌, map, ℕ, ◌+◌, ◌-◌, ◌*◌, ◌<◌, T, length, take, pos, Float, Some}
 use Rattle.std.specs.Float.Ieee.{lt}
 use Rattle.grid.specs.Ways.{pixel}
 use Rattle.grid.specs.Each.{each}
@@ -10,7 +10,6 @@ use Rattle.params.specs.declared.settings.RadonDetectorParams.{RadonDetectorPara
 use Rattle.params.specs.declared.answers.Outcome.{Outcome}
 use Rattle.params.specs.Settings.{factor_of}
 use Rattle.scalar.specs.Log.{log_of, terms, high}
-use Rattle.scalar.specs.declared.Log.TheVariants.{Value}
 use Rattle.response.specs.Map.{Buffers, side_of, map_of}
 use Rattle.detect.specs.Corners.{stride}
 use Rattle.as_rust.specs.Machine.{Machine, ◌⊕◌, ◌⊗◌, ◌⊘◌, lit_0, lit_1, as_f32}
@@ -56,7 +55,7 @@ SameList old list found = list ≡ written stride (λ corner. corner) found old
 -- the machine's logarithm is ours wherever it is asked: on the map's values above 0
 abbrev pub LogIsOurs : Machine → List ℕ → ℕ → ℕ → RadonDetectorParams → Type 0
 LogIsOurs m img w h p = (x y : ℕ) → x < side_of w p → y < side_of h p → T (lt lit_0 (map_of (pixel img w) w h p x y))
-    → log_of terms high (map_of (pixel img w) w h p x y) ≡ Value (m.ln (map_of (pixel img w) w h p x y))
+    → log_of terms high (map_of (pixel img w) w h p x y) ≡ Some (m.ln (map_of (pixel img w) w h p x y))
 
 -- the Rust's list from the buffers that its map's function left
 abbrev pub found_by : Machine → RadonDetectorParams → RadonBuffers → List (List Float)

@@ -16,9 +16,8 @@ use Rattle.float.proofs.Sized.{Small, small, sized, small_mono, small_of_le, pow
 use Rattle.float.proofs.Sized.{add_small, sub_small, mul_small}
 use Rattle.params.specs.declared.settings.PeakFitMode.{PeakFitMode}
 use Rattle.params.specs.declared.settings.PeakFitMode.TheVariants.{Parabolic, Gaussian}
+use Rattle.std.specs.Prelude.{Option, Some, None}
 use Rattle.scalar.specs.Log.{log_of, terms, high}
-use Rattle.scalar.specs.declared.Log.{Log}
-use Rattle.scalar.specs.declared.Log.TheVariants.{Value, Outside}
 use Rattle.scalar.proofs.Close.{AtMost}
 use Rattle.scalar.proofs.Facts.{log_size}
 use Rattle.peak_fit.specs.PeakFit.{f2, half, minus_half, flat, greatest, denominator, clamped, peak_of}
@@ -144,16 +143,16 @@ at_most_small nan h = absurd h
 at_most_small (inf s) h = absurd h
 at_most_small (fin s m e) h = small_mono (lit≤ tt) (small (sized h))
 
-log_small : (x r : Float) → T (fits binary32 x) → log_of terms high x ≡ Value r → Small (2 ^ 32) r
+log_small : (x r : Float) → T (fits binary32 x) → log_of terms high x ≡ Some r → Small (2 ^ 32) r
 log_small x r f e = at_most_small r (log_size x r f e)
 
 -- ---- the whole function
 
-abbrev rust_of_three : Log → Log → Log → Float
-rust_of_three (Value ym) (Value y0) (Value yp) = rust_peak ym y0 yp
-rust_of_three (Value ym) (Value y0) Outside = f0
-rust_of_three (Value ym) Outside p = f0
-rust_of_three Outside c p = f0
+abbrev rust_of_three : Option Float → Option Float → Option Float → Float
+rust_of_three (Some ym) (Some y0) (Some yp) = rust_peak ym y0 yp
+rust_of_three (Some ym) (Some y0) None = f0
+rust_of_three (Some ym) None p = f0
+rust_of_three None c p = f0
 
 abbrev rust_by_mode : PeakFitMode → Float → Float → Float → Float
 rust_by_mode Parabolic m c p = rust_peak m c p
@@ -170,13 +169,13 @@ module _ (m c p : Float) (F : T (fits binary32 m)) (G : T (fits binary32 c)) (H 
   unfolding peak_of_logs
   logs_as_rust = go (log_of terms high m) (log_of terms high c) (log_of terms high p) refl refl refl
     where
-      go : (a b d : Log) → log_of terms high m ≡ a → log_of terms high c ≡ b → log_of terms high p ≡ d
+      go : (a b d : Option Float) → log_of terms high m ≡ a → log_of terms high c ≡ b → log_of terms high p ≡ d
           → peak_of_three a b d ≡ rust_of_three a b d
-      go (Value ym) (Value y0) (Value yp) e f g =
+      go (Some ym) (Some y0) (Some yp) e f g =
           peak_as_rust (log_small m ym F e) (log_small c y0 G f) (log_small p yp H g)
-      go (Value ym) (Value y0) Outside e f g = refl
-      go (Value ym) Outside d e f g = refl
-      go Outside b d e f g = refl
+      go (Some ym) (Some y0) None e f g = refl
+      go (Some ym) None d e f g = refl
+      go None b d e f g = refl
 
   raw_as_rust : T (all_usable m c p) → peak_of m c p ≡ rust_peak m c p
   unfolding all_usable

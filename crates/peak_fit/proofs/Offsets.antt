@@ -7,9 +7,8 @@ use lib.Ieee.Scale.{finite}
 use Rattle.float.specs.Values.{f0, f1}
 use Rattle.params.specs.declared.settings.PeakFitMode.{PeakFitMode}
 use Rattle.params.specs.declared.settings.PeakFitMode.TheVariants.{Parabolic, Gaussian}
+use Rattle.std.specs.Prelude.{Option, Some, None}
 use Rattle.scalar.specs.Log.{log_of, terms, high}
-use Rattle.scalar.specs.declared.Log.{Log}
-use Rattle.scalar.specs.declared.Log.TheVariants.{Value, Outside}
 use Rattle.peak_fit.specs.PeakFit.{f2, half, minus_half, flat, denominator, clamped, peak_of}
 use Rattle.peak_fit.specs.PeakFit.{peak_of_three, peak_of_logs, all_above, by_mode, all_usable, fit_of}
 
@@ -48,11 +47,11 @@ peak_central : (ym y0 yp : Float) → Central (peak_of ym y0 yp)
 unfolding peak_of
 peak_central ym y0 yp = either (lt flat (denominator ym y0 yp)) at_zero (clamped_central _)
 
-three_central : (m c p : Log) → Central (peak_of_three m c p)
-three_central (Value ym) (Value y0) (Value yp) = peak_central ym y0 yp
-three_central (Value ym) (Value y0) Outside = at_zero
-three_central (Value ym) Outside p = at_zero
-three_central Outside c p = at_zero
+three_central : (m c p : Option Float) → Central (peak_of_three m c p)
+three_central (Some ym) (Some y0) (Some yp) = peak_central ym y0 yp
+three_central (Some ym) (Some y0) None = at_zero
+three_central (Some ym) None p = at_zero
+three_central None c p = at_zero
 
 mode_central : (mode : PeakFitMode) (m c p : Float) → Central (by_mode mode m c p)
 unfolding by_mode peak_of_logs

@@ -1,13 +1,11 @@
 -- The peak fit of three map values along one axis: ym before the pixel, y0 at it, yp after it. Assumes nothing.
-use Rattle.std.specs.Prelude.{Bool, cond, ◌&&◌, Float}
+use Rattle.std.specs.Prelude.{Bool, cond, ◌&&◌, Float, Option, Some, None}
 use Rattle.std.specs.Float.{binary32}
 use Rattle.std.specs.Float.Ieee.{of_bits, add, sub, mul, div, lt, le}
 use Rattle.float.specs.Values.{f0}
 use Rattle.params.specs.declared.settings.PeakFitMode.{PeakFitMode}
 use Rattle.params.specs.declared.settings.PeakFitMode.TheVariants.{Parabolic, Gaussian}
 use Rattle.scalar.specs.Log.{log_of, terms, high}
-use Rattle.scalar.specs.declared.Log.{Log}
-use Rattle.scalar.specs.declared.Log.TheVariants.{Value, Outside}
 
 abbrev pub f2 : Float
 f2 = of_bits binary32 0x4000_0000
@@ -46,11 +44,11 @@ peak_of ym y0 yp =
 -- ---- Document 01: "Gaussian mode, three positive values: each is replaced by our logarithm"; and "three positive ones
 -- with one outside the logarithm, gives 0"
 
-abbrev pub peak_of_three : Log → Log → Log → Float
-peak_of_three (Value ym) (Value y0) (Value yp) = peak_of ym y0 yp
-peak_of_three (Value ym) (Value y0) Outside = f0
-peak_of_three (Value ym) Outside p = f0
-peak_of_three Outside c p = f0
+abbrev pub peak_of_three : Option Float → Option Float → Option Float → Float
+peak_of_three (Some ym) (Some y0) (Some yp) = peak_of ym y0 yp
+peak_of_three (Some ym) (Some y0) None = f0
+peak_of_three (Some ym) None p = f0
+peak_of_three None c p = f0
 
 unfoldable pub peak_of_logs : Float → Float → Float → Float
 peak_of_logs m c p = peak_of_three (log_of terms high m) (log_of terms high c) (log_of terms high p)

@@ -3,11 +3,12 @@
 #![tactic(auto)]
 
 ghost use Rattle.std.specs.Prelude.{◌≡◌};
+ghost use Rattle.std.specs.Option.{unwrap_or};
+ghost use Rattle.float.specs.Values.{f0};
 ghost use Rattle.peak_fit.specs.PeakFit.{usable, all_usable, all_above, clamped, peak_of};
-ghost use Rattle.peak_fit.specs.PeakFit.{peak_of_three, peak_of_logs, by_mode, fit_of};
+ghost use Rattle.peak_fit.specs.PeakFit.{peak_of_logs, by_mode, fit_of};
 
 use params::PeakFitMode;
-use scalar::Log;
 
 // An offset goes no further than halfway to the next pixel.
 const LOW: f32 = -0.5;
@@ -23,32 +24,30 @@ const FLAT: f32 = -1e-12;
 fn is_usable(y: f32) -> bool
     ensures { result ≡ usable y }
 {
-    (0.0 <= y) & (y <= MOST)
+    0.0 <= y && y <= MOST
 }
 
 fn all_usable(y_minus: f32, y_c: f32, y_plus: f32) -> bool
     ensures { result ≡ all_usable y_minus y_c y_plus }
 {
-    is_usable(y_minus) & (is_usable(y_c) & is_usable(y_plus))
+    is_usable(y_minus) && is_usable(y_c) && is_usable(y_plus)
 }
 
 fn all_above(y_minus: f32, y_c: f32, y_plus: f32) -> bool
     ensures { result ≡ all_above y_minus y_c y_plus }
 {
-    (y_minus > 0.0) & ((y_c > 0.0) & (y_plus > 0.0))
+    y_minus > 0.0 && y_c > 0.0 && y_plus > 0.0
 }
 
-// The upper end is tested first, so that a NaN, which none of these tests passes, would not come back.
+// By hand, since `f32::clamp` gives a NaN back: here a NaN, which passes neither test, becomes the upper end.
 fn clamp(frac: f32) -> f32
     ensures { result ≡ clamped frac }
 {
     if frac <= HIGH {
-        if LOW <= frac {
-            return frac;
-        }
-        return LOW;
+        if LOW <= frac { frac } else { LOW }
+    } else {
+        HIGH
     }
-    HIGH
 }
 
 fn peak(ym: f32, y0: f32, yp: f32) -> f32
@@ -56,31 +55,17 @@ fn peak(ym: f32, y0: f32, yp: f32) -> f32
 {
     let denom = ym - 2.0 * y0 + yp;
     if denom > FLAT {
-        return 0.0;
+        0.0
+    } else {
+        clamp(0.5 * (ym - yp) / denom)
     }
-    clamp(0.5 * (ym - yp) / denom)
 }
 
-// A value outside the logarithm's range leaves nothing to fit.
-fn peak_of_three(minus: Log, middle: Log, plus: Log) -> f32
-    ensures { result ≡ peak_of_three minus middle plus }
+// The peak of the logarithms; none where a value is outside the logarithm's range, which leaves nothing to fit.
+fn log_peak(y_minus: f32, y_c: f32, y_plus: f32) -> Option<f32>
+    ensures { unwrap_or result f0 ≡ peak_of_logs y_minus y_c y_plus }
 {
-    let Log::Value(ym) = minus else {
-        return 0.0;
-    };
-    let Log::Value(y0) = middle else {
-        return 0.0;
-    };
-    let Log::Value(yp) = plus else {
-        return 0.0;
-    };
-    peak(ym, y0, yp)
-}
-
-fn log_peak(y_minus: f32, y_c: f32, y_plus: f32) -> f32
-    ensures { result ≡ peak_of_logs y_minus y_c y_plus }
-{
-    peak_of_three(scalar::ln(y_minus), scalar::ln(y_c), scalar::ln(y_plus))
+    Some(peak(scalar::ln(y_minus)?, scalar::ln(y_c)?, scalar::ln(y_plus)?))
 }
 
 // A value that is not above zero has no logarithm: there the values themselves are fitted, in either mode.
@@ -88,15 +73,10 @@ fn by_mode(y_minus: f32, y_c: f32, y_plus: f32, mode: PeakFitMode) -> f32
     ensures { result ≡ by_mode mode y_minus y_c y_plus }
 {
     match mode {
-        PeakFitMode::Parabolic => {
-            return peak(y_minus, y_c, y_plus);
-        }
-        PeakFitMode::Gaussian => {
-            if all_above(y_minus, y_c, y_plus) {
-                return log_peak(y_minus, y_c, y_plus);
-            }
-            return peak(y_minus, y_c, y_plus);
-        }
+        PeakFitMode::Gaussian if all_above(y_minus, y_c, y_plus) => log_peak(
+            y_minus, y_c, y_plus,
+        ).unwrap_or(0.0),
+        _ => peak(y_minus, y_c, y_plus),
     }
 }
 
@@ -105,7 +85,8 @@ pub fn fit_peak_frac(y_minus: f32, y_c: f32, y_plus: f32, mode: PeakFitMode) -> 
     ensures { result ≡ fit_of mode y_minus y_c y_plus }
 {
     if all_usable(y_minus, y_c, y_plus) {
-        return by_mode(y_minus, y_c, y_plus, mode);
+        by_mode(y_minus, y_c, y_plus, mode)
+    } else {
+        0.0
     }
-    0.0
 }

@@ -17,7 +17,7 @@ use lib.Ieee.Scale.{finite}
 use Rattle.float.specs.Values.{f0}
 use Rattle.grid.specs.Ways.{pixel, Inside}
 use Rattle.scalar.specs.Log.{log_of, terms, high, lowest, highest, Near}
-use Rattle.scalar.specs.declared.Log.TheVariants.{Value}
+use Rattle.std.specs.Prelude.{Some}
 use Rattle.scalar.proofs.Facts.{log_near, log_inside}
 use Rattle.params.specs.declared.settings.RadonDetectorParams.{RadonDetectorParams}
 use Rattle.params.specs.declared.answers.Answer.TheVariants.{FrameTooSmall}
@@ -124,7 +124,7 @@ pub record Logged (v : Float) : Type 0 where
   pub least : T (le lowest v)
   pub most : T (le v (highest high))
   pub log : Float
-  pub defined : log_of terms high v ≡ Value log
+  pub defined : log_of terms high v ≡ Some log
   pub close : Near terms v log
 
 logged : (v : Float) → T (fits binary32 v) → T (le lowest v) → T (le v (highest high)) → Logged v

@@ -4,7 +4,6 @@
 
 ghost use Rattle.std.specs.Prelude.{◌≤◌};
 
-use scalar::{Log, Root};
 use std::io;
 
 // What stands for the answer "outside": a NaN's pattern, which no answer has.
@@ -16,16 +15,11 @@ const MOST: usize = 4096;
 // 2^-19 in units of 2^-40, less one for the rounding of L.
 const CLOSE: u64 = 2097151;
 
+// 2^31: the sign's bit of a pattern.
+const SIGN: u64 = 2147483648;
+
 // 2^63: no logarithm is so large, in the same units.
 const FAR: u64 = 9223372036854775808;
-
-// What a record is compared by.
-#[derive(Clone, Copy)]
-enum Kind {
-    Root,
-    Log,
-    Near,
-}
 
 // How many records agree, and the place of the first that does not.
 #[derive(Clone, Copy)]
@@ -48,23 +42,33 @@ fn replayed(rt: &impl Print, s: &[u8]) -> io::Result<()> {
     let logs = vectors::skip(s, first_root, 8 * many_roots);
     let many_logs = count(s, logs);
     let first_log = vectors::skip(s, logs, 4);
+    let root_agrees = |at| pattern(root(s, at)) == vectors::field(s, at, 4);
+    let log_agrees = |at| pattern(log(s, at)) == vectors::field(s, at, 4);
+    let log_is_near = |at| {
+        near(
+            log(s, at),
+            vectors::field(s, at, 4),
+            vectors::field(s, at, 8),
+            vectors::field(s, at, 12),
+        )
+    };
     report(
         rt,
         b"roots that agree:",
         many_roots,
-        counted(s, Kind::Root, first_root, many_roots),
+        counted(s, first_root, 8, many_roots, root_agrees),
     )?;
     report(
         rt,
         b"logarithms that agree:",
         many_logs,
-        counted(s, Kind::Log, first_log, many_logs),
+        counted(s, first_log, 16, many_logs, log_agrees),
     )?;
     report(
         rt,
         b"logarithms within 2^-19 of L:",
         many_logs,
-        counted(s, Kind::Near, first_log, many_logs),
+        counted(s, first_log, 16, many_logs, log_is_near),
     )
 }
 
@@ -75,68 +79,62 @@ fn count(s: &[u8], at: usize) -> usize
     vectors::capped(vectors::word(s, at), MOST)
 }
 
-// Compares as many records of one kind as there are, from a place on.
-fn counted(s: &[u8], kind: Kind, from: usize, many: usize) -> Tally {
-    let size = size_of(kind);
-    let mut agree: usize = 0;
-    let mut first = many;
+// Compares as many records as there are, each of `size` bytes, from a place on.
+fn counted<F: Fn(usize) -> bool>(
+    s: &[u8],
+    from: usize,
+    size: usize,
+    many: usize,
+    agrees: F,
+) -> Tally
+    requires { F.IsAlwaysCallable agrees }
+{
+    let mut tally = Tally {
+        agree: 0,
+        first: many,
+    };
     let mut at = from;
-    let mut i: usize = 0;
-    while i < many {
-        if agrees(s, kind, at) {
-            agree = vectors::plus(agree, 1);
+    for i in 0..many {
+        if agrees(at) {
+            tally.agree += 1;
         } else {
-            first = sizes::lesser(first, i);
+            tally.first = tally.first.min(i);
         }
         at = vectors::skip(s, at, size);
-        i += 1;
     }
-    Tally { agree, first }
+    tally
 }
 
-fn size_of(kind: Kind) -> usize {
-    match kind {
-        Kind::Root => 8,
-        Kind::Log => 16,
-        Kind::Near => 16,
-    }
+// The root, or the logarithm, of the number whose pattern stands at a place.
+fn root(s: &[u8], at: usize) -> Option<f32> {
+    scalar::sqrt(vectors::float(vectors::word(s, at)))
 }
 
-fn agrees(s: &[u8], kind: Kind, at: usize) -> bool {
-    let x = vectors::word(s, at);
-    let expected = vectors::word(s, vectors::skip(s, at, 4));
-    let high = vectors::word(s, vectors::skip(s, at, 8));
-    let low = vectors::word(s, vectors::skip(s, at, 12));
-    match kind {
-        Kind::Root => root_bits(x) == expected,
-        Kind::Log => log_bits(x) == expected,
-        Kind::Near => near(log_bits(x), expected, high, low),
-    }
+fn log(s: &[u8], at: usize) -> Option<f32> {
+    scalar::ln(vectors::float(vectors::word(s, at)))
 }
 
-// Whether the logarithm with this pattern is within 2^-19 of L, which stands in two halves, in units of 2^-40: the top bit is its sign, as of a
-// pattern.
-fn near(bits: u64, expected: u64, high: u64, low: u64) -> bool
+// An answer as a record has it.
+fn pattern(answer: Option<f32>) -> u64 {
+    answer.map_or(OUTSIDE, vectors::bits)
+}
+
+// Whether the logarithm is within 2^-19 of L, which stands in two halves, in units of 2^-40: the top bit is its sign, as of a pattern.
+fn near(answer: Option<f32>, expected: u64, high: u64, low: u64) -> bool
     requires { low ≤ 4294967296 }
 {
+    let bits = pattern(answer);
     if bits == OUTSIDE || expected == OUTSIDE {
         return bits == expected;
     }
-    let exact = high % 2147483648 * 4294967296 + low;
-    let found = units(bits % 2147483648);
-    if bits < 2147483648 && high >= 2147483648 || bits >= 2147483648 && high < 2147483648 {
-        return both_small(found, exact);
+    let exact = high % SIGN * 4294967296 + low;
+    let found = units(bits % SIGN);
+    if (bits < SIGN) == (high < SIGN) {
+        found.abs_diff(exact) <= CLOSE
+    } else {
+        // Two numbers with opposite signs: their sizes together are the distance.
+        found <= CLOSE && exact <= CLOSE - found
     }
-    distance(found, exact) <= CLOSE
-}
-
-// Two numbers with opposite signs: their sizes together are at most the distance.
-fn both_small(a: u64, b: u64) -> bool {
-    if a <= CLOSE { b <= CLOSE - a } else { false }
-}
-
-fn distance(a: u64, b: u64) -> u64 {
-    if a <= b { b - a } else { a - b }
 }
 
 // The size of an f32 from 2^-27 to below 2^5 in units of 2^-40, 0 for 0, and far off for any other.
@@ -144,32 +142,13 @@ fn units(bits: u64) -> u64 {
     let field = bits / 8388608;
     let digits = bits % 8388608 + 8388608;
     if bits == 0 {
-        return 0;
-    }
-    if field < 100 {
-        return FAR;
-    }
-    if field < 110 {
-        return digits >> (110 - field);
-    }
-    if field < 132 {
-        return digits << (field - 110);
-    }
-    FAR
-}
-
-// The pattern of the root, or of the logarithm, of the number with the pattern x.
-fn root_bits(x: u64) -> u64 {
-    match scalar::sqrt(vectors::float(x)) {
-        Root::Value(y) => vectors::bits(y),
-        Root::Outside => OUTSIDE,
-    }
-}
-
-fn log_bits(x: u64) -> u64 {
-    match scalar::ln(vectors::float(x)) {
-        Log::Value(y) => vectors::bits(y),
-        Log::Outside => OUTSIDE,
+        0
+    } else if field < 100 || field >= 132 {
+        FAR
+    } else if field < 110 {
+        digits >> (110 - field)
+    } else {
+        digits << (field - 110)
     }
 }
 

@@ -2,7 +2,6 @@
 pub mod Exact
 pub mod Table
 pub mod Walk
-pub mod Sign
 pub mod Fitting
 pub mod Spread
 pub mod Inside

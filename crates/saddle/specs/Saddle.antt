@@ -1,5 +1,5 @@
 -- The saddle test, over an image as a function: f x y is the pixel in column x of row y. Assumes nothing.
-use Rattle.std.specs.Prelude.{Bool, false, cond, ◌&&◌, ℕ, ◌+◌, ◌-◌, ◌*◌, max, leb, length, pos, Float}
+use Rattle.std.specs.Prelude.{Bool, false, cond, ◌&&◌, ℕ, ◌+◌, ◌-◌, ◌*◌, max, leb, length, pos, Float, Option, Some, None}
 use mathlib.Core.List.{List, foldl}
 use Rattle.std.specs.Float.{nan, inf, fin, binary32}
 use Rattle.std.specs.Float.Ieee.{of_bits, of_int, minus, add, sub, mul, div, le}
@@ -8,8 +8,6 @@ use Rattle.grid.specs.Each.{keep}
 use Rattle.grid.specs.Rect.{Place, rect}
 use Rattle.sizes.specs.Fits.{square_fits}
 use Rattle.scalar.specs.Root.{root_of}
-use Rattle.scalar.specs.declared.Root.{Root}
-use Rattle.scalar.specs.declared.Root.TheVariants.{Value, Outside}
 use Rattle.saddle.specs.declared.SaddleTest.{SaddleTest}
 use Rattle.saddle.specs.declared.Moments.{Moments}
 use Rattle.saddle.specs.declared.Sums.{Sums}
@@ -153,9 +151,9 @@ unfoldable pub squares : Float → Float → Float
 squares q b = add binary32 (mul binary32 (mul binary32 f16 q) q) (mul binary32 (mul binary32 f4 b) b)
 
 -- there is always a root where pixels are at most 4,095: crates/saddle_facts
-abbrev pub by_root : ℕ → Float → Root → Saddle
-by_root k tr (Value spread) = by_curvatures k tr spread
-by_root k tr Outside = Flat
+abbrev pub by_root : ℕ → Float → Option Float → Saddle
+by_root k tr (Some spread) = by_curvatures k tr spread
+by_root k tr None = Flat
 
 unfoldable pub judge : SaddleTest → ℕ → Sums → Saddle
 unfolding by_curvatures squares

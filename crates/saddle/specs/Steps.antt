@@ -1,8 +1,6 @@
 -- What the private functions of the saddle test hand each other. Assumes nothing.
-use Rattle.std.specs.Prelude.{◌≡◌, ◌&&◌, cond, ℕ, ◌+◌, ◌-◌, ◌*◌, ◌/◌, ◌%◌, ◌^◌, ◌≤◌, ◌<◌, ltb, leb, Float}
-use Rattle.std.specs.Float.Ieee.{lt, neg}
-use Rattle.float.specs.Values.{f0}
-use Rattle.grid.specs.Rect.{place}
+use Rattle.std.specs.Prelude.{◌≡◌, ◌&&◌, ℕ, ◌+◌, ◌-◌, ◌*◌, ◌/◌, ◌%◌, ◌^◌, ◌≤◌, ◌<◌, ltb, leb, Float}
+use Rattle.grid.specs.Rect.{Place, place}
 use Rattle.grid.specs.Ways.{Inside}
 use Rattle.saddle.specs.Saddle.{side, apart, in_disk}
 
@@ -28,6 +26,6 @@ pub record Around (k n w h x y : ℕ) : Type 0 where
   pub inside : Inside w h k x y
   pub room : w * h ≤ n
 
--- x without its sign, but that -0 keeps it, which no comparison sees
-abbrev pub signless : Float → Float
-signless x = cond (lt x f0) (neg x) x
+-- what the closure adds at a place, where `post` is what its calls give: the step of the definitions
+abbrev pub AddsAs : {A : Type 0} → (A → ℕ → ℕ → Float → Float → A → Type 0) → (Place → Float → Float → A → A) → Type 0
+AddsAs {A} post step = (s r : A) (p : Place) (dx dy : Float) → post s p.x p.y dx dy r → r ≡ step p dx dy s

@@ -15,7 +15,7 @@ use Rattle.float.proofs.Sized.{mul_small, add_small, sub_small, add_plus, square
 use Rattle.grid.specs.Each.{each, keep}
 use Rattle.grid.specs.Rect.{Place, from, range, line, rect}
 use Rattle.scalar.specs.Root.{root_of}
-use Rattle.scalar.specs.declared.Root.TheVariants.{Value}
+use Rattle.std.specs.Prelude.{Some}
 use Rattle.saddle.specs.declared.SaddleTest.{SaddleTest}
 use Rattle.saddle.specs.Saddle.{f4, f16, offset, disk, over_disk, no_sums, added, around, sums_of, saddle_of}
 use Rattle.saddle.specs.Saddle.{squares, by_curvatures, judge, saddle_at}
@@ -131,7 +131,7 @@ squares-plus q b Q B =
     (square-plus (2 ^ 34) (2 ^ 64) (power 34 (lit≤ tt)) (power 64 (lit≤ tt)) (lit≤ tt) (lit≤ tt) sixteen Q)
     (square-plus (2 ^ 32) (2 ^ 62) (power 32 (lit≤ tt)) (power 62 (lit≤ tt)) (lit≤ tt) (lit≤ tt) four B)
 
-has_root : {n : ℕ} {x : Float} → Sized false n x → root_of x ≡ Value (nearest_root x)
+has_root : {n : ℕ} {x : Float} → Sized false n x → root_of x ≡ Some (nearest_root x)
 unfolding root_of
 has_root (sized h) = refl
 
@@ -147,7 +147,7 @@ module _ (k : ℕ) (f : ℕ → ℕ → ℕ) (x y : ℕ) (least : 1 ≤ k) (most
       start : After 0 no_sums
       start = unfold of_bits in record { v = small (sized (lit≤ tt)); xy = small (sized (lit≤ tt)) }
 
-  pub never_outside : root_of (spread_squared (saddle_of k) sums) ≡ Value (nearest_root (spread_squared (saddle_of k) sums))
+  pub never_outside : root_of (spread_squared (saddle_of k) sums) ≡ Some (nearest_root (spread_squared (saddle_of k) sums))
   unfolding tame
   never_outside =
       let t = saddle_of k in

@@ -8,7 +8,7 @@ use Rattle.scalar.specs.Log.{unit, sum_top, sum_bottom, cut_sum, cut_third, unit
 use Rattle.scalar.specs.Log.{more_one, distance, Close, Within, Near, float_of, difference, log_of, lowest, highest, most_bits}
 use Rattle.scalar.specs.Log.{terms, high}
 use Rattle.scalar.specs.Steps.{roomy, a_third}
-use Rattle.scalar.specs.declared.Log.TheVariants.{Value, Outside}
+use Rattle.std.specs.Prelude.{Some, None}
 use Rattle.scalar.proofs.Squares.{cut_low, cut_high}
 use Rattle.scalar.proofs.Range.{in_range}
 use Rattle.scalar.proofs.Rounding.{Nearby, nearby}
@@ -286,11 +286,11 @@ both_true : (a b : Bool) → (a && b) ≡ true → (a ≡ true) × (b ≡ true)
 both_true true b e = (refl, e)
 both_true false b e = absurd (subst T (sym e) tt)
 
-picked : (t : Bool) (v r : Float) → cond t (Value v) Outside ≡ Value r → (t ≡ true) × (v ≡ r)
+picked : (t : Bool) (v r : Float) → cond t (Some v) None ≡ Some r → (t ≡ true) × (v ≡ r)
 picked true v r e = (refl, cc)
 picked false v r e = absurd (let z : ◌≡◌ {A = ℕ} 0 1 = cc in omega arith)
 
-module _ (N H : ℕ) (room : Room N H) (x r : Float) (f : T (fits binary32 x)) (e : log_of N H x ≡ Value r) where
+module _ (N H : ℕ) (room : Room N H) (x r : Float) (f : T (fits binary32 x)) (e : log_of N H x ≡ Some r) where
   found : (to_bits binary32 x ≤ most_bits H) × (difference (units_of N (to_bits binary32 x)) (6 * cut_third N) ≡ r)
   unfolding log_of
   found =

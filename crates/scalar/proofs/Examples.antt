@@ -4,13 +4,12 @@ use lib.Ieee.{Float, fin, binary32, le, to_bits, of_bits}
 use Rattle.scalar.specs.Root.{root_bits, root_of}
 use Rattle.scalar.specs.Log.{log_of, Near, terms, high, unit, cut_sum, cut_third, units_of, difference, doublings, less_one, more_one}
 use Rattle.scalar.specs.Log.{plus, minus, whole, lowest, highest}
-use Rattle.scalar.specs.declared.Root.TheVariants as R
-use Rattle.scalar.specs.declared.Log.TheVariants as L
+use Rattle.std.specs.Prelude.{Some, None}
 use Rattle.scalar.proofs.Series.{ratio_le, ninth_is_cut}
 
 -- ---- the square root
 
-root_of-four : root_of (fin false 1 (pos 2)) ≡ R.Value (fin false 1 (pos 1))
+root_of-four : root_of (fin false 1 (pos 2)) ≡ Some (fin false 1 (pos 1))
 unfolding root_of to_bits of_bits
 root_of-four = refl
 
@@ -31,32 +30,32 @@ root_of-greatest : root_bits 0x7f7f_ffff ≡ 0x5f7f_ffff
 unfolding root_bits
 root_of-greatest = refl
 
-root_of_minus_zero : root_of (fin true 0 (pos 0)) ≡ R.Outside
+root_of_minus_zero : root_of (fin true 0 (pos 0)) ≡ None
 unfolding root_of
 root_of_minus_zero = refl
 
 -- ---- the logarithm
 
-log_of-one : log_of terms high (fin false 1 (pos 0)) ≡ L.Value (fin false 0 (pos 0))
+log_of-one : log_of terms high (fin false 1 (pos 0)) ≡ Some (fin false 0 (pos 0))
 unfolding log_of le to_bits
 log_of-one = refl
 
 -- 93032639 / 2 ^ 27 is 0.693147.., and 93032640 / 2 ^ 27 the nearest f32, which is that of ln 2 itself;
 -- the logarithm of a half is its negative
-log_of-two : log_of terms high (fin false 1 (pos 1)) ≡ L.Value (fin false 1453635 (negsuc 20))
+log_of-two : log_of terms high (fin false 1 (pos 1)) ≡ Some (fin false 1453635 (negsuc 20))
 unfolding log_of le to_bits
 log_of-two = refl
 
-log_of-half : log_of terms high (fin false 1 (negsuc 0)) ≡ L.Value (fin true 1453635 (negsuc 20))
+log_of-half : log_of terms high (fin false 1 (negsuc 0)) ≡ Some (fin true 1453635 (negsuc 20))
 unfolding log_of le to_bits
 log_of-half = refl
 
 -- half of the least number inside, and twice the greatest
-log_of-small : log_of terms high (fin false 1 (negsuc 6)) ≡ L.Outside
+log_of-small : log_of terms high (fin false 1 (negsuc 6)) ≡ None
 unfolding log_of le to_bits
 log_of-small = refl
 
-log_of_large : log_of terms high (fin false 1 (pos 25)) ≡ L.Outside
+log_of_large : log_of terms high (fin false 1 (pos 25)) ≡ None
 unfolding log_of le to_bits
 log_of_large = refl
 
@@ -69,7 +68,7 @@ third_of_five = refl
 
 -- at 4 two of these are already over 2 ^ -19: the bound alone tells that logarithm from the new one, and so one
 -- with longer sums that has kept its constant
-log_of-four : log_of 5 high (fin false 1 (pos 2)) ≡ L.Value (fin false 11629061 (negsuc 22))
+log_of-four : log_of 5 high (fin false 1 (pos 2)) ≡ Some (fin false 11629061 (negsuc 22))
 unfolding log_of le to_bits
 log_of-four = refl
 
@@ -92,13 +91,13 @@ units_of-eight b =
 pub eight_give_the_same : (H : ℕ) (x : Float) → log_of 8 H x ≡ log_of 9 H x
 unfolding log_of
 eight_give_the_same H x =
-    ap (λ (v : Float). cond (le lowest x && le x (highest H)) (L.Value v) L.Outside)
+    ap (λ (v : Float). cond (le lowest x && le x (highest H)) (Some v) None)
     (ap (λ (c : ℕ). difference (units_of 8 (to_bits binary32 x)) (6 * c)) third_of_eight
     ∙ ap (λ (a : ℕ). difference a (6 * cut_third 9)) (units_of-eight (to_bits binary32 x)))
 
 -- seven do not: of the number before 1 a code whose sum ends at n = 13 makes -12 units of 2 ^ -27,
 -- where it is to be -11
-log_before_one : log_of terms high (fin false 16777215 (negsuc 23)) ≡ L.Value (fin true 11 (negsuc 26))
+log_before_one : log_of terms high (fin false 16777215 (negsuc 23)) ≡ Some (fin true 11 (negsuc 26))
 unfolding log_of le to_bits
 log_before_one = refl
 

@@ -5,8 +5,7 @@ use lib.Ieee.{Float, nan, inf, fin, binary32, fits, le, to_bits, of_bits}
 use Rattle.scalar.specs.Bits.{from_zero, infinite, val, middle, greatest}
 use Rattle.scalar.specs.Root.{middle_squared, fourfold, IsRoot, root_bits, root_of}
 use Rattle.scalar.specs.Log.{log_of, Near, difference, units_of, cut_third, lowest, highest, terms, high}
-use Rattle.scalar.specs.declared.Root.TheVariants as R
-use Rattle.scalar.specs.declared.Log.TheVariants as L
+use Rattle.std.specs.Prelude.{Some, None}
 use Rattle.scalar.proofs.Patterns.{val_mono, pattern_from_zero, finite_below}
 use Rattle.scalar.proofs.Quarters.{scaling, rounded}
 use Rattle.scalar.proofs.Nearest.{squared_mono, fourfold_mono, above-middle, is_root, root_is}
@@ -144,7 +143,7 @@ module _ (b : ℕ) (finite : b < infinite) where
       sum = add-le-add (le_of_eq (ap val (back (root_bits b)))) (val_mono (root_bits b + 1) d (next (root_bits b) d h))
 
 -- the root of a finite number from +0 up is a value, and that is a finite number from +0 up
-pub root_inside : (x : Float) → T (fits binary32 x) → from_zero x ≡ true → (y : Float) × (root_of x ≡ R.Value y) × (from_zero y ≡ true)
+pub root_inside : (x : Float) → T (fits binary32 x) → from_zero x ≡ true → (y : Float) × (root_of x ≡ Some y) × (from_zero y ≡ true)
 unfolding root_of
 root_inside nan f p = absurd (subst T (sym p) tt)
 root_inside (inf s) f p = absurd (subst T (sym p) tt)
@@ -154,7 +153,7 @@ root_inside (fin false m e) f p =
     (of_bits binary32 (root_bits b), refl, pattern_from_zero (root_bits b) (root_below b (finite_below m e f)))
 
 -- and nothing else has a root
-pub root_outside : (x : Float) → from_zero x ≡ false → root_of x ≡ R.Outside
+pub root_outside : (x : Float) → from_zero x ≡ false → root_of x ≡ None
 unfolding root_of
 root_outside nan p = refl
 root_outside (inf s) p = refl
@@ -165,13 +164,13 @@ root_outside (fin false m e) p = absurd (subst T p tt)
 
 -- an input from 2 ^ -6 to the upper end is never outside
 pub log_inside : (N H : ℕ) (x : Float) → le lowest x ≡ true → le x (highest H) ≡ true
-    → log_of N H x ≡ L.Value (difference (units_of N (to_bits binary32 x)) (6 * cut_third N))
+    → log_of N H x ≡ Some (difference (units_of N (to_bits binary32 x)) (6 * cut_third N))
 unfolding log_of
 log_inside N H x l h = simp (l, h)
 
 -- what `ln` gives is within 2 ^ -19 of L, and is finite and at most 32 in size
-pub log_near : (x r : Float) → T (fits binary32 x) → log_of terms high x ≡ L.Value r → Near terms x r
+pub log_near : (x r : Float) → T (fits binary32 x) → log_of terms high x ≡ Some r → Near terms x r
 log_near x r = near terms high room_here x r
 
-pub log_size : (x r : Float) → T (fits binary32 x) → log_of terms high x ≡ L.Value r → AtMost 32 r
+pub log_size : (x r : Float) → T (fits binary32 x) → log_of terms high x ≡ Some r → AtMost 32 r
 log_size x r = at_most_32 terms high room_here x r

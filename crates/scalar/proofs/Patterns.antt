@@ -3,7 +3,7 @@
 use Rattle.std.proofs.Common.{◌≡◌, ℕ, zero, suc, ◌+◌, ◌-◌, ◌*◌, ◌/◌, ◌%◌, ◌^◌, ◌<◌, ◌≤◌, Bool, true, false, cond, not, T, eqb, ltb, leb, ℤ, sym, refl, ap, ◌∙◌, subst, inl, inr, le_of_eq, lt_of_lt_of_le, le_of_lt, add-le-add, mod-eq_of_lt, mul_assoc, mul-le-mul, eq-or-lt_of_le, mul-lt-mul_of_pos_right, lt_of_not-le, mul-one, not-le_of_lt, arith, eqb→eq, ltb→lt, leb→le, pow_pos, pow_mono}
 use native.Mathlib.Nat.{pow-succ'}
 use lib.Dec.{nleb→lt, not_T}
-use lib.Ieee.{Float, nan, inf, fin, up, down, binary32, fits, odd, of_fields, of_bits, to_bits, nan_bits, is_nan, ne}
+use lib.Ieee.{Float, nan, inf, fin, up, down, binary32, fits, odd, of_fields, of_bits, to_bits, nan_bits}
 use lib.Ieee.Bits.{is_false, cond_no, of_bits-to_bits, nan_bits_above}
 use lib.Ieee.Exact.{HasValue, odd_sign}
 use Rattle.scalar.specs.Bits.{from_zero, infinite, of_field, val, middle}
@@ -203,9 +203,3 @@ no_nan_pattern c h =
     subst (λ (b : Bool). T (not b)) (sym (nan_bits_above binary32 c))
     (not_T (ltb 2139095040 (c % 2147483648))
     (λ (t : T (ltb 2139095040 (c % 2147483648))). not-le_of_lt (ltb→lt 2139095040 (c % 2147483648) t) h))
-
-pub no_nan_value : (x : Float) → ne x x ≡ false → T (not (is_nan x))
-unfolding ne is_nan
-no_nan_value nan e = subst (λ (b : Bool). T (not b)) (sym e) tt
-no_nan_value (inf s) e = tt
-no_nan_value (fin s m k) e = tt

@@ -1,10 +1,8 @@
 -- The logarithm: the exact fraction L, the f32 that stands for it, and that the two are
 -- within 2 ^ -19. N is the number of terms of the series, 2 ^ H the upper end.
-use Rattle.std.specs.Prelude.{ℕ, zero, suc, ◌+◌, ◌-◌, ◌*◌, ◌/◌, ◌%◌, ◌^◌, ◌≤◌, true, false, cond, ◌&&◌, pos, negsuc, nat_le, to_bits, Float}
+use Rattle.std.specs.Prelude.{ℕ, zero, suc, ◌+◌, ◌-◌, ◌*◌, ◌/◌, ◌%◌, ◌^◌, ◌≤◌, true, false, cond, ◌&&◌, pos, negsuc, nat_le, to_bits, Float, Option, Some, None}
 use Rattle.std.specs.Float.{nan, inf, fin, binary32}
 use Rattle.std.specs.Float.Ieee.{up, down, le, of_int, div, neg}
-use Rattle.scalar.specs.declared.Log.{Log}
-use Rattle.scalar.specs.declared.Log.TheVariants.{Value, Outside}
 
 -- ---- what a longer series or a wider range changes here (with TERMS, THIRD and MOST of src/, and `third_units` of proofs/Series)
 
@@ -127,7 +125,7 @@ least_bits = 0x3c80_0000
 abbrev pub most_bits : ℕ → ℕ
 most_bits H = (127 + H) * 8388608
 
-unfoldable pub log_of : ℕ → ℕ → Float → Log
+unfoldable pub log_of : ℕ → ℕ → Float → Option Float
 unfolding difference units_of cut_third
 log_of N H x =
-    cond (le lowest x && le x (highest H)) (Value (difference (units_of N (to_bits binary32 x)) (6 * cut_third N))) Outside
+    cond (le lowest x && le x (highest H)) (Some (difference (units_of N (to_bits binary32 x)) (6 * cut_third N))) None

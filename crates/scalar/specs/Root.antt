@@ -1,8 +1,6 @@
 -- The correctly rounded square root of an f32, stated by comparing squares of whole numbers.
-use Rattle.std.specs.Prelude.{ℕ, ◌+◌, ◌*◌, ◌^◌, ◌<◌, ◌≤◌, true, false, from_bits, nat_le, to_bits, Float}
+use Rattle.std.specs.Prelude.{ℕ, ◌+◌, ◌*◌, ◌^◌, ◌<◌, ◌≤◌, true, false, from_bits, nat_le, to_bits, Float, Option, Some, None}
 use Rattle.std.specs.Float.{nan, inf, fin, binary32}
-use Rattle.scalar.specs.declared.Root.{Root}
-use Rattle.scalar.specs.declared.Root.TheVariants.{Value, Outside}
 use Rattle.scalar.specs.Bits.{val, middle, greatest}
 
 -- Twice the middle below the pattern c, squared; and four times the number of the pattern b. Both are in units of 2 ^ -298, so that
@@ -26,9 +24,9 @@ unfolding greatest middle_squared fourfold
 root_bits b = greatest (λ c. nat_le (middle_squared c) (fourfold b)) 31 0
 
 -- Document 01: "The square root is correctly rounded for finite numbers from 0 up, and answers "outside" otherwise, for negative zero too".
-unfoldable pub root_of : Float → Root
+unfoldable pub root_of : Float → Option Float
 unfolding root_bits
-root_of nan = Outside
-root_of (inf s) = Outside
-root_of (fin true m e) = Outside
-root_of (fin false m e) = Value (from_bits binary32 (root_bits (to_bits binary32 (fin false m e))))
+root_of nan = None
+root_of (inf s) = None
+root_of (fin true m e) = None
+root_of (fin false m e) = Some (from_bits binary32 (root_bits (to_bits binary32 (fin false m e))))

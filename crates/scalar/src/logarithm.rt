@@ -1,6 +1,6 @@
 // The logarithm of a bit pattern, in whole numbers: units of 2^-28 of half the logarithm, which are units of 2^-27 of the whole.
 ghost use Rattle.std.specs.Prelude.{◌≡◌, ◌<◌, ◌≤◌};
-ghost use Rattle.scalar.specs.Log.{cut_sum, units_of, float_of, terms, high, least_bits, most_bits};
+ghost use Rattle.scalar.specs.Log.{cut_sum, units_of, float_of, difference, terms, high, least_bits, most_bits};
 ghost use Rattle.scalar.specs.Steps.{a_third, roomy};
 
 // How many terms the series has: 9 is up to z^17.
@@ -20,11 +20,9 @@ fn odd_sum(z: u64) -> u64
     let w = z * z / ONE;
     let mut p = z;
     let mut sum = 0u64;
-    let mut j = 0u64;
-    while j < TERMS {
-        sum = sum + p / (2 * j + 1);
+    for j in 0..TERMS {
+        sum += p / (2 * j + 1);
         p = p * w / ONE;
-        j = j + 1;
     }
     sum
 }
@@ -40,9 +38,21 @@ pub fn units(b: u32) -> u64
 }
 
 // d units as an f32, rounded once: dividing by 2^27 is exact.
-pub fn float_of(d: u64) -> f32
+fn float_of(d: u64) -> f32
     requires { d < roomy }
     ensures { result ≡ float_of d }
 {
     std::num::nearest_u32_to_f32(d as u32) / 134217728.0
+}
+
+// a - c units as an f32.
+pub fn difference(a: u64, c: u64) -> f32
+    requires { (a < roomy) × (c < roomy) }
+    ensures { result ≡ difference a c }
+{
+    if c <= a {
+        float_of(a - c)
+    } else {
+        -float_of(c - a)
+    }
 }

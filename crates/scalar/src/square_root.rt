@@ -1,5 +1,6 @@
 // The square root of a bit pattern, in whole numbers: the pattern is scaled by a power of 4 to n, the root of n is rounded,
 // and the pattern is put together again.
+// By hand: no law leads from the library's `f32::sqrt`, a fraction rounded, to `root_of`, which compares squares.
 ghost use Rattle.std.specs.Prelude.{◌≡◌, ◌<◌, ◌≤◌};
 ghost use Rattle.scalar.specs.Bits.{infinite};
 ghost use Rattle.scalar.specs.Root.{root_bits};
@@ -11,8 +12,7 @@ pub const INFINITE: u32 = 2139095040;
 // 2^23: a pattern divided by it is the exponent's field, and the remainder the digits.
 const FIELD: u32 = 8388608;
 
-// The same, 64 bits wide.
-const WIDE_FIELD: u64 = 8388608;
+const WIDE_FIELD: u64 = FIELD as u64;
 
 // 2^46: the root of a number from here to 2^48 has 24 digits.
 const LEAST_SCALED: u64 = 70368744177664;
@@ -36,6 +36,7 @@ fn guess(n: u64) -> u64
     }
 }
 
+// By hand, since `u64::isqrt` halves 32 times where three steps or so do.
 // A step of Newton's is never below the whole root, whatever it starts from: so the first number that is not above the root is the whole root.
 fn whole_root(n: u64) -> u64
     requires { n < 281474976710656 }
@@ -63,11 +64,11 @@ fn scaled_low(b: u32) -> Scaling
     requires { (0 < b) × (b < 8388608) }
     ensures { Scales b result.n result.h }
 {
-    let mut n = (b as u64) * WIDE_FIELD;
+    let mut n = b as u64 * WIDE_FIELD;
     let mut h = 63u32;
     while n < LEAST_SCALED {
-        n = n * 4;
-        h = h - 1;
+        n *= 4;
+        h -= 1;
     }
     Scaling { n, h }
 }
@@ -83,17 +84,12 @@ fn scaled(b: u32) -> Scaling
     let k = b / FIELD - 1;
     let m = (b % FIELD + FIELD) as u64;
     let h = 63 + k / 2;
-    if k % 2 == 0 {
-        Scaling {
-            n: m * WIDE_FIELD,
-            h,
-        }
+    let n = if k % 2 == 0 {
+        m * WIDE_FIELD
     } else {
-        Scaling {
-            n: m * (2 * WIDE_FIELD),
-            h,
-        }
-    }
+        m * (2 * WIDE_FIELD)
+    };
+    Scaling { n, h }
 }
 
 // The pattern of the nearest root. A significand of 2^24 would carry into the exponent by itself; none occurs.

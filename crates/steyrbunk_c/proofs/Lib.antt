@@ -1,5 +1,4 @@
 -- Steps of the proofs, and that the map goes by three settings.
 pub mod Cases
-pub mod OneFloat
 pub mod OnlyThree
 pub mod Cameras

@@ -5,6 +5,8 @@
 #![tactic(auto)]
 
 ghost use Rattle.std.specs.Prelude.{◌≡◌, length};
+ghost use Rattle.std.specs.Float.{nan};
+ghost use Rattle.std.specs.Option.{unwrap_or};
 ghost use Rattle.grid.specs.Each.{each};
 ghost use Rattle.scalar.specs.Log.{log_of, terms, high};
 ghost use Rattle.scalar.specs.Root.{root_of};
@@ -15,14 +17,12 @@ ghost use Rattle.arch.specs.Arch.{arch_outcome, arch_buffers};
 ghost use Rattle.record.specs.Record.{version, stride, write_outcome, written, read_outcome, read_back};
 ghost use Rattle.steyrbunk_c.specs.Called.{settings_of, map_settings, reported, told, map_reported, map_told, verdict_numbers, camera_numbers};
 ghost use Rattle.steyrbunk_c.specs.Called.{called_outcome, called_buffers, called_peaks, called_list};
-ghost use Rattle.steyrbunk_c.specs.OrNan.{root_or_nan, log_or_nan};
 
 use arch::run_arch;
 use params::{Answer, Outcome, PeakFitMode, RadonDetectorParams, Verdicts};
 use radon::radon_corners_u8;
 use record::{read_record, write_record};
 use response::radon_response_u8;
-use scalar::{Log, Root};
 
 // The settings that a call's numbers give, or answer 14, where the number of the mode is above 1.
 fn settings_of(
@@ -304,24 +304,18 @@ pub extern "C" fn steyrbunk_read_record(
     tell(read_record(file, list), count, ww, wh)
 }
 
-// The square root. NaN stands for "outside", here and below.
+// The square root. NaN stands for none, here and below.
 #[unsafe(no_mangle)]
 pub extern "C" fn steyrbunk_sqrt(x: f32) -> f32
-    ensures { result ≡ root_or_nan (root_of x) }
+    ensures { result ≡ unwrap_or (root_of x) nan }
 {
-    match scalar::sqrt(x) {
-        Root::Value(y) => y,
-        Root::Outside => 0.0 / 0.0,
-    }
+    scalar::sqrt(x).unwrap_or(f32::NAN)
 }
 
 // The logarithm.
 #[unsafe(no_mangle)]
 pub extern "C" fn steyrbunk_ln(x: f32) -> f32
-    ensures { result ≡ log_or_nan (log_of terms high x) }
+    ensures { result ≡ unwrap_or (log_of terms high x) nan }
 {
-    match scalar::ln(x) {
-        Log::Value(y) => y,
-        Log::Outside => 0.0 / 0.0,
-    }
+    scalar::ln(x).unwrap_or(f32::NAN)
 }

@@ -1,8 +1,14 @@
 -- `peak_fit::all_above` meets its contract. Assumes nothing.
-use mathlib.Core.Path.{refl}
+use Rattle.std.proofs.Common.{arith}
+use Rattle.std.proofs.lemmas.Grind.{common_steps}
 use Rattle.peak_fit.specs.PeakFit.{all_above}
+use Rattle.peak_fit.proofs.all_above.Goals.{then-y_minus, else-y_minus}
 use Rattle.peak_fit.proofs.all_above.Goals as goal
 
-pub returns : goal.returns
+pub returns-then-y_c : goal.returns-then-y_c
 unfolding all_above
-returns c = refl
+returns-then-y_c c = elim c.if-y_minus.branch [ then-y_minus w ↦ grind (arith, common_steps) | else-y_minus w ↦ grind (arith, common_steps) ]
+
+pub returns-else-y_c : goal.returns-else-y_c
+unfolding all_above
+returns-else-y_c c = elim c.if-y_minus.branch [ then-y_minus w ↦ grind (arith, common_steps) | else-y_minus w ↦ grind (arith, common_steps) ]

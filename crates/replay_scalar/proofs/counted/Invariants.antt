@@ -1,6 +1,6 @@
--- `replay_scalar::counted`: it ends after the last record.
-use Rattle.std.proofs.Common.{◌-◌}
+-- `replay_scalar::counted`: no more agree than were compared.
+use Rattle.std.proofs.Common.{◌≤◌}
 use Rattle.replay_scalar.proofs.counted.Given as goal
 
-abbrev pub decreases-loop-i : goal.decreases-loop-i
-decreases-loop-i l = l.many - l.i
+abbrev pub invariant-loop-i : goal.invariant-loop-i
+invariant-loop-i g l = l.tally.agree ≤ l.i

@@ -5,8 +5,8 @@ use Rattle.saddle.proofs.new.Goals as goal
 
 pub returns-then-k : goal.returns-then-k
 unfolding saddle_numbers
-returns-then-k c = c.numbers_of.ensures ∙ rw c.if-k.true
+returns-then-k c = c.numbers_of.ensures ∙ rw (c.new.ensures, c.if-k.true)
 
-pub returns : goal.returns
+pub returns-else-k : goal.returns-else-k
 unfolding saddle_numbers
-returns c = rw c.if-k.false
+returns-else-k c = rw c.if-k.false

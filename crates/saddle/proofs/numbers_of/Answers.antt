@@ -5,5 +5,4 @@ use Rattle.saddle.proofs.numbers_of.Goals as goal
 
 pub returns : goal.returns
 unfolding saddle_of mean_of
-returns c =
-    simp (c.disk_norms-n.ensures, c.disk_moments-m.ensures, count-is c.args.k c.requires)
+returns c = simp (c.disk_norms-n.ensures, c.disk_moments-m.ensures, count-is c.args.disk.k c.args.disk.small)

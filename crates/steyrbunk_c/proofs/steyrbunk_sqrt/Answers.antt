@@ -1,9 +1,8 @@
--- `steyrbunk_c::steyrbunk_sqrt` meets its contract: the square root, and 0 / 0 is NaN. Assumes nothing.
+-- `steyrbunk_c::steyrbunk_sqrt` meets its contract: 0 / 0 is NaN. Assumes nothing.
+use Rattle.std.proofs.Common.{◌∙◌}
 use lib.Ieee.{div, of_bits}
-use Rattle.steyrbunk_c.specs.OrNan.{root_or_nan}
-use Rattle.steyrbunk_c.proofs.OneFloat.{as_one}
 use Rattle.steyrbunk_c.proofs.steyrbunk_sqrt.Goals as goal
 
-pub returns-in-Outside : goal.returns-in-Outside
+pub returns : goal.returns
 unfolding div of_bits
-returns-in-Outside c = as_one root_or_nan c.in-Outside.is c.sqrt.ensures
+returns c = c.unwrap_or.ensures ∙ rw c.sqrt.ensures
