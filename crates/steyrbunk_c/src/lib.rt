@@ -19,10 +19,11 @@ ghost use Rattle.steyrbunk_c.specs.Called.{settings_of, map_settings, reported, 
 ghost use Rattle.steyrbunk_c.specs.Called.{called_outcome, called_buffers, called_peaks, called_list};
 
 use arch::run_arch;
+use cumsums::Tables;
 use params::{Answer, Outcome, PeakFitMode, RadonDetectorParams, Verdicts};
 use radon::radon_corners_u8;
 use record::{read_record, write_record};
-use response::radon_response_u8;
+use response::{WorkBuffers, radon_response_u8};
 
 // The settings that a call's numbers give, or answer 14, where the number of the mode is above 1.
 fn settings_of(
@@ -111,8 +112,19 @@ pub extern "C" fn steyrbunk_corners(
         (lent work.old row.old col.old fall.old rise.old
         resp.old scratch.old out.old) }
 {
+    let work = &mut WorkBuffers {
+        working: work,
+        tables: Tables {
+            row,
+            col,
+            falling: fall,
+            rising: rise,
+        },
+        response: resp,
+        scratch,
+    };
     let o = match settings_of(ray, up, blur, fit, threshold, nms, least) {
-        Ok(p) => radon_corners_u8(img, w, h, p, work, row, col, fall, rise, resp, scratch, out),
+        Ok(p) => radon_corners_u8(img, w, h, p, work, out),
         Err(answer) => Outcome::refusal(answer),
     };
     *verdicts = verdict_numbers(o.verdicts);
@@ -176,9 +188,18 @@ pub extern "C" fn steyrbunk_run_arch(
         (lent work.old row.old col.old fall.old rise.old
         resp.old scratch.old out.old) }
 {
-    let o = run_arch(
-        cameras, frames, work, row, col, fall, rise, resp, scratch, out,
-    );
+    let work = &mut WorkBuffers {
+        working: work,
+        tables: Tables {
+            row,
+            col,
+            falling: fall,
+            rising: rise,
+        },
+        response: resp,
+        scratch,
+    };
+    let o = run_arch(cameras, frames, work, out);
     tell_cameras(o.cameras, told);
     o.answer.number()
 }
@@ -228,7 +249,18 @@ pub extern "C" fn steyrbunk_response(
         resp.old scratch.old) }
 {
     let p = map_settings(ray, up, blur);
-    let m = radon_response_u8(img, w, h, p, work, row, col, fall, rise, resp, scratch);
+    let work = &mut WorkBuffers {
+        working: work,
+        tables: Tables {
+            row,
+            col,
+            falling: fall,
+            rising: rise,
+        },
+        response: resp,
+        scratch,
+    };
+    let m = radon_response_u8(img, w, h, p, work);
     *ww = m.w;
     *wh = m.h;
     m.answer.number()
