@@ -74,7 +74,7 @@ fn verdict_numbers(v: Verdicts) -> [usize; 6]
 
 // The finder: map and list of an image in one call.
 #[unsafe(no_mangle)]
-pub extern "C" fn steyrbunk_corners(
+pub extern "C" fn steyrbunk_corners<'a>(
     img: &[u8],
     w: usize,
     h: usize,
@@ -85,13 +85,13 @@ pub extern "C" fn steyrbunk_corners(
     threshold: f32,
     nms: u32,
     least: u32,
-    work: &mut [u8],
-    row: &mut [u32],
-    col: &mut [u32],
-    fall: &mut [u32],
-    rise: &mut [u32],
-    resp: &mut [f32],
-    scratch: &mut [f32],
+    work: &'a mut [u8],
+    row: &'a mut [u32],
+    col: &'a mut [u32],
+    fall: &'a mut [u32],
+    rise: &'a mut [u32],
+    resp: &'a mut [f32],
+    scratch: &'a mut [f32],
     out: &mut [f32],
     count: &mut usize,
     ww: &mut usize,
@@ -163,16 +163,16 @@ fn tell_cameras(cameras: [Outcome; 8], told: &mut [usize])
 
 // All cameras of an arch: frame files end to end, and as many equal shares of the list as there are cameras.
 #[unsafe(no_mangle)]
-pub extern "C" fn steyrbunk_run_arch(
+pub extern "C" fn steyrbunk_run_arch<'a>(
     cameras: usize,
     frames: &[u8],
-    work: &mut [u8],
-    row: &mut [u32],
-    col: &mut [u32],
-    fall: &mut [u32],
-    rise: &mut [u32],
-    resp: &mut [f32],
-    scratch: &mut [f32],
+    work: &'a mut [u8],
+    row: &'a mut [u32],
+    col: &'a mut [u32],
+    fall: &'a mut [u32],
+    rise: &'a mut [u32],
+    resp: &'a mut [f32],
+    scratch: &'a mut [f32],
     out: &mut [f32],
     told: &mut [usize; 80],
 ) -> u32
@@ -221,20 +221,20 @@ fn map_settings(ray: u32, up: u32, blur: u32) -> RadonDetectorParams
 
 // The map alone.
 #[unsafe(no_mangle)]
-pub extern "C" fn steyrbunk_response(
+pub extern "C" fn steyrbunk_response<'a>(
     img: &[u8],
     w: usize,
     h: usize,
     ray: u32,
     up: u32,
     blur: u32,
-    work: &mut [u8],
-    row: &mut [u32],
-    col: &mut [u32],
-    fall: &mut [u32],
-    rise: &mut [u32],
-    resp: &mut [f32],
-    scratch: &mut [f32],
+    work: &'a mut [u8],
+    row: &'a mut [u32],
+    col: &'a mut [u32],
+    fall: &'a mut [u32],
+    rise: &'a mut [u32],
+    resp: &'a mut [f32],
+    scratch: &'a mut [f32],
     ww: &mut usize,
     wh: &mut usize,
 ) -> u32

@@ -1,0 +1,7 @@
+-- `steyrbunk_response`: what comes back in the struct is what was lent. Assumes nothing.
+use Rattle.std.proofs.Common.{sym}
+use Rattle.steyrbunk_c.proofs.steyrbunk_response.Goals as goal
+
+pub returns-clause-buffers : goal.returns-clause-buffers
+returns-clause-buffers c =
+    let e = c.radon_response_u8-m.ensures.same in ?
