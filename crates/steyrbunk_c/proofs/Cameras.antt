@@ -1,85 +1,58 @@
--- What is told in numbers: a whole array, and the loop that tells one camera after the other. Assumes nothing.
-use mathlib.Core.Path.{◌≡◌, refl, sym, ap, ◌∙◌}
-use mathlib.Core.List.{List, [], ◌∷◌, ◌++◌}
-use Prim.Native.Nat.{ℕ, suc, ◌+◌, ◌*◌, ◌≤◌, ◌<◌}
-use native.Mathlib.Numerals.{add-one}
-use native.Mathlib.Omega.{arith}
-use lib.ListN.{length, get_or, set, take}
-use lib.Seq.{sets, length-sets, take_all, take-suc, length-take-le}
+-- The loop that tells one camera after the other. Assumes nothing.
+use Rattle.std.proofs.Common.{◌≡◌, refl, sym, ap, ◌∙◌, ℕ, ◌+◌, ◌*◌, ◌-◌, ◌≤◌, ◌<◌, List, [], ◌∷◌, ◌++◌, length, take, drop, append_assoc, append-nil, get_or, add-one, arith}
+use Rattle.std.proofs.Math.Seq.{take-suc, take-append_seam, drop-append_seam, drop-drop, length-take-le}
+use Rattle.std.proofs.lemmas.List.{take_all, drop_all}
 use Rattle.grid.specs.Each.{each}
-use Rattle.grid.specs.Over.{over}
 use Rattle.grid.proofs.Each.{each_none, each_more, length-each}
-use Rattle.grid.proofs.Over.{over_none, length_over, over_sets, take-over}
 use Rattle.params.specs.declared.answers.Outcome.{Outcome}
 use Rattle.steyrbunk_c.specs.Called.{camera_numbers}
-
--- ---- numbers that take a whole array
-
-over-whole : (v l : List ℕ) → length v ≡ length l → over v l ≡ v
-over-whole v l e = sym (take_all (length v) (over v l) (omega (arith, length_over v l))) ∙ take-over v l (omega arith)
-
-pub sets_whole : (l v : List ℕ) → length v ≡ length l → sets l 0 v ≡ v
-sets_whole l v e = ap (λ (k : List ℕ). sets k 0 v) (sym (over_none l)) ∙ over_sets v [] l ∙ over-whole v l e
-
--- ---- numbers that are stored one after the other
-
--- six of them
-pub sets_six : (l : List ℕ) (at a b c d e f : ℕ)
-    → set (set (set (set (set (set l at a) (at + 1) b) (at + 2) c) (at + 3) d) (at + 4) e) (at + 5) f
-    ≡ sets l at (a ∷ b ∷ c ∷ d ∷ e ∷ f ∷ [])
-sets_six l at a b c d e f =
-    let one : at + 1 ≡ suc at = omega arith in
-    let two : at + 2 ≡ suc (suc at) = omega arith in
-    let three : at + 3 ≡ suc (suc (suc at)) = omega arith in
-    let four : at + 4 ≡ suc (suc (suc (suc at))) = omega arith in
-    let five : at + 5 ≡ suc (suc (suc (suc (suc at)))) = omega arith in
-    rw (one, two, three, four, five)
-
--- four, and more behind them
-pub sets_four : (l : List ℕ) (at a b c d : ℕ) (v : List ℕ) {out : List ℕ}
-    → out ≡ sets (set (set (set (set l at a) (at + 1) b) (at + 2) c) (at + 3) d) (at + 4) v → out ≡ sets l at (a ∷ b ∷ c ∷ d ∷ v)
-sets_four l at a b c d v h =
-    let one : at + 1 ≡ suc at = omega arith in
-    let two : at + 2 ≡ suc (suc at) = omega arith in
-    let three : at + 3 ≡ suc (suc (suc at)) = omega arith in
-    let four : at + 4 ≡ suc (suc (suc (suc at))) = omega arith in
-    rw (one, two, three, four) at h
-
--- ---- the cameras
 
 ten : (o : Outcome) → length (camera_numbers o) ≡ 10
 ten o = refl
 
 -- the first i are told
 pub record Telling (cameras : List Outcome) (old out : List ℕ) (i : ℕ) : Type 0 where
+  pub many : length cameras ≡ 8
   pub most : i ≤ 8
-  pub fill : out ≡ over (each camera_numbers (take i cameras)) old
-  pub long : length out ≡ 80
+  pub fill : out ≡ each camera_numbers (take i cameras) ++ drop (10 * i) old
 
 module _ (cameras : List Outcome) (old : List ℕ) where
-  pub telling_none : length old ≡ 80 → Telling cameras old old 0
-  telling_none long = record { most = omega arith; fill = rw each_none (sym (over_none old)); long = long }
+  pub telling_none : length cameras ≡ 8 → Telling cameras old old 0
+  telling_none many = record { many = many; most = omega arith; fill = rw each_none }
 
-  module _ (many : length cameras ≡ 8) {out : List ℕ} {i : ℕ} (t : Telling cameras old out i) where
-    -- camera i's ten numbers are stored
-    pub telling_more : {new : List ℕ} (d : Outcome) → i < 8 → new ≡ sets out (10 * i) (camera_numbers (get_or cameras i d)) → Telling cameras old new (i + 1)
-    telling_more d l e =
+  module _ {out : List ℕ} {i : ℕ} (t : Telling cameras old out i) where
+    abbrev before : List ℕ
+    before = each camera_numbers (take i cameras)
+
+    at : length before ≡ 10 * i
+    at = length-each 10 camera_numbers ten (take i cameras) ∙ ap (λ (k : ℕ). 10 * k) (length-take-le i cameras (omega (arith, t.many, t.most)))
+
+    -- camera i's ten numbers are copied there: `told[a..a + 10]`
+    pub telling_more : (d : Outcome) {nums : List ℕ} → nums ≡ camera_numbers (get_or cameras i d) → i < 8
+        → Telling cameras old (take (10 * i) out ++ (nums ++ drop (10 * i + 10 - 10 * i) (drop (10 * i) out))) (i + 1)
+    telling_more d {nums} e l =
         let o = get_or cameras i d in
-        let before = each camera_numbers (take i cameras) in
-        let at : length before ≡ 10 * i =
-        length-each 10 camera_numbers ten (take i cameras) ∙ ap (λ (k : ℕ). 10 * k) (length-take-le i cameras (omega arith)) in
-        let next : take (i + 1) cameras ≡ take i cameras ++ (o ∷ []) = rw add-one (take-suc cameras i d (omega arith)) in
+        let more = drop (10 * i) old in
+        let front : take (10 * i) out ≡ before =
+        rw t.fill (ap (λ (n : ℕ). take n (before ++ more)) (sym at) ∙ take-append_seam before more) in
+        let behind : drop (10 * i) out ≡ more =
+        rw t.fill (ap (λ (n : ℕ). drop n (before ++ more)) (sym at) ∙ drop-append_seam before more) in
+        let part : 10 * i + 10 - 10 * i ≡ 10 = omega arith in
+        let end : 10 * i + 10 ≡ 10 * (i + 1) = omega arith in
+        let rest : drop 10 more ≡ drop (10 * (i + 1)) old = drop-drop 10 (10 * i) old ∙ ap (λ (n : ℕ). drop n old) end in
+        let next : take (i + 1) cameras ≡ take i cameras ++ (o ∷ []) = rw add-one (take-suc cameras i d (omega (arith, t.many))) in
         record {
+          many = t.many;
           most = omega arith;
-          fill = e ∙ rw (t.fill, next, each_more, ← at) (over_sets (camera_numbers o) before old);
-          long = ap length e ∙ length-sets out (10 * i) (camera_numbers o) ∙ t.long;
+          fill = (λ k. front k ++ (e k ++ drop (part k) (behind k)))
+              ∙ ap (λ (m : List ℕ). before ++ (camera_numbers o ++ m)) rest
+              ∙ sym (append_assoc before (camera_numbers o) (drop (10 * (i + 1)) old))
+              ∙ ap (λ (m : List ℕ). m ++ drop (10 * (i + 1)) old)
+              (sym (ap (each camera_numbers) next ∙ each_more camera_numbers (take i cameras) o));
         }
 
-    pub telling_all : 8 ≤ i → out ≡ each camera_numbers cameras
-    telling_all done =
-        let told = each camera_numbers cameras in
-        let all : take i cameras ≡ cameras = take_all i cameras (omega arith) in
-        let fill : out ≡ over told old = rw all at t.fill in
-        let as_long : length told ≡ 80 = length-each 10 camera_numbers ten cameras ∙ ap (λ (k : ℕ). 10 * k) many in
-        let old-long : length old ≡ 80 = sym (length_over told old) ∙ sym (ap length fill) ∙ t.long in
-        fill ∙ over-whole told old (as_long ∙ sym old-long)
+    pub telling_all : 8 ≤ i → length old ≡ 80 → out ≡ each camera_numbers cameras
+    telling_all done long =
+        let all : take i cameras ≡ cameras = take_all i cameras (omega (arith, t.many)) in
+        let none : drop (10 * i) old ≡ [] = drop_all (10 * i) old (omega arith) in
+        t.fill ∙ (λ k. each camera_numbers (all k) ++ none k) ∙ append-nil (each camera_numbers cameras)

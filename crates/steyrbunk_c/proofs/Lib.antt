@@ -1,4 +1,3 @@
 -- Steps of the proofs, and that the map goes by three settings.
-pub mod Cases
 pub mod OnlyThree
 pub mod Cameras
