@@ -70,7 +70,7 @@ pub record Ran (frames : List ℕ) (size cameras : ℕ) (b c : Buffers) (out : L
   pub due : rest ≡ rest_at frames i
   pub left : c ≡ left_by frames size b i
   pub tells : out ≡ filled i (told frames size b) (replicate 8 no_frame)
-  pub long : SameLengths b c
+  pub long : length c.list ≡ length b.list
 
 module _ (frames : List ℕ) (size cameras : ℕ) (b : Buffers) where
   pub ran_none : {none : Outcome} → none ≡ no_frame → (cameras ≤ 8) × (cameras * size ≤ length b.list)
@@ -83,13 +83,13 @@ module _ (frames : List ℕ) (size cameras : ℕ) (b : Buffers) where
     due = refl;
     left = refl;
     tells = ap (replicate 8) is ∙ filled_zero _ _;
-    long = same_lengths b;
+    long = refl;
   }
 
   -- camera i's share lies in the list
   pub share_room : {c : Buffers} {out : List Outcome} {rest : List ℕ} {i : ℕ} → Ran frames size cameras b c out rest i → i < cameras
       → (i < 8) × (i * size + size ≤ length c.list)
-  share_room ran goes = (omega arith, omega (arith, share_in size goes ran.room))
+  share_room ran goes = (omega arith, omega (arith, share_in size goes ran.room, ran.long))
 
   -- a turn: camera i was told o and left d of what it was lent, and its frame took n bytes
   module _ {c : Buffers} {out : List Outcome} {rest : List ℕ} {i : ℕ} (ran : Ran frames size cameras b c out rest i) (goes : i < cameras)
@@ -112,7 +112,7 @@ module _ (frames : List ℕ) (size cameras : ℕ) (b : Buffers) where
     unfolding rest_at
     due_next = rw (add-one i) (next_rest rest gone ∙ ap (λ (l : List ℕ). behind l (due_in l)) ran.due)
 
-    ran_more : SameLengths b (back_from size i c d) → Ran frames size cameras b (back_from size i c d) (set out i o) (drop n rest) (i + 1)
+    ran_more : length (back_from size i c d).list ≡ length b.list → Ran frames size cameras b (back_from size i c d) (set out i o) (drop n rest) (i + 1)
     ran_more long = record {
       eight = ran.eight;
       room = ran.room;
@@ -134,17 +134,17 @@ module _ (frames : List ℕ) (size cameras : ℕ) (b : Buffers) where
     abbrev returned : Buffers → Buffers
     returned d = record { map = d.map; list = take (i * size) c.list ++ (d.list ++ drop part (drop (i * size) c.list)) }
 
-    lengths_back : {d : Buffers} → SameLengths given d → SameLengths b (returned d)
-    lengths_back {d} s = lengths_on ran.long s (length_back (i * size) part c.list d.list s.list ∙ ran.long.list)
+    long_back : (d : Buffers) → length d.list ≡ length given.list → length (returned d).list ≡ length b.list
+    long_back d s = length_back (i * size) part c.list d.list s ∙ ran.long
 
     pub ran_turn : {o : Outcome} {d : Buffers} {n : ℕ} → o ≡ camera_outcome rest (due_in rest) given → d ≡ camera_buffers rest (due_in rest) given
-        → n ≡ gone_by (due_in rest) (length rest) → SameLengths given d
+        → n ≡ gone_by (due_in rest) (length rest) → length d.list ≡ length given.list
         → Ran frames size cameras b (returned d) (set out i o) (take (length rest - n) (drop n rest)) (i + 1)
-    ran_turn {n = n} tell leave gone long =
+    ran_turn {d = d} {n = n} tell leave gone long =
         let whole : part ≡ size = omega arith in
         let all : take (length rest - n) (drop n rest) ≡ drop n rest = take_all (length rest - n) (drop n rest) (omega (arith, length-drop n rest)) in
         rw (whole, all)
-        (ran_more ran goes (rw whole at tell) (rw whole at leave) gone (rw whole at (lengths_back long)))
+        (ran_more ran goes (rw whole at tell) (rw whole at leave) gone (rw whole at (long_back d long)))
 
   pub ran_all : {c : Buffers} {out : List Outcome} {rest : List ℕ} {i : ℕ} → Ran frames size cameras b c out rest i → cameras ≤ i
       → (out ≡ filled cameras (told frames size b) (replicate 8 no_frame)) × (c ≡ left_by frames size b cameras)

@@ -4,13 +4,15 @@
 
 ghost use Rattle.std.specs.Prelude.{◌≡◌, ◌*◌, ◌≤◌, length, replicate};
 ghost use Rattle.grid.specs.Fill.{filled};
-ghost use Rattle.radon.specs.Finder.{lent};
+ghost use Rattle.response.specs.Work.{SameWork};
+ghost use Rattle.radon.specs.Finder.{lent_now};
 ghost use Rattle.arch_plan.specs.Plan.{due_in};
 ghost use Rattle.arch.specs.Arch.{camera_outcome, camera_buffers, told, no_frame, left_by, arch_outcome, arch_buffers};
 
 use arch_plan::{due_in, gone_in, judge_arch, share_size};
 use frame_runner::run_frame_file;
 use params::{Answer, Outcome};
+use response::WorkBuffers;
 
 // What a call for an arch reports: its own answer, 0 or 21, and what each camera is told.
 #[derive(Clone, Copy)]
@@ -20,40 +22,17 @@ pub struct ArchOutcome {
 }
 
 // The camera whose frame begins where `rest` does: answered as a single call would, with its share as the list; or not whole, and refused.
-fn run_camera(
-    rest: &[u8],
-    working: &mut [u8],
-    row: &mut [u32],
-    col: &mut [u32],
-    falling: &mut [u32],
-    rising: &mut [u32],
-    response: &mut [f32],
-    scratch: &mut [f32],
-    share: &mut [f32],
-) -> Outcome
+fn run_camera(rest: &[u8], work: &mut WorkBuffers, share: &mut [f32]) -> Outcome
     ensures answer { result ≡ camera_outcome rest.now (due_in rest.now)
-        (lent working.old row.old col.old falling.old
-        rising.old response.old scratch.old share.old) }
-    ensures buffers { lent working.new row.new col.new falling.new
-        rising.new response.new scratch.new share.new
+        (lent_now work.old share.old) }
+    ensures same { SameWork work.old work.new }
+    ensures buffers { lent_now work.new share.new
         ≡ camera_buffers rest.now (due_in rest.now)
-        (lent working.old row.old col.old falling.old
-        rising.old response.old scratch.old share.old) }
+        (lent_now work.old share.old) }
 {
     match due_in(rest) {
         Err(answer) => Outcome::refusal(answer),
-        Ok(n) => run_frame_file(
-            &rest[..n],
-            n,
-            working,
-            row,
-            col,
-            falling,
-            rising,
-            response,
-            scratch,
-            share,
-        ),
+        Ok(n) => run_frame_file(&rest[..n], n, work, share),
     }
 }
 
@@ -62,24 +41,16 @@ fn run_cameras(
     cameras: usize,
     size: usize,
     frames: &[u8],
-    working: &mut [u8],
-    row: &mut [u32],
-    col: &mut [u32],
-    falling: &mut [u32],
-    rising: &mut [u32],
-    response: &mut [f32],
-    scratch: &mut [f32],
+    work: &mut WorkBuffers,
     list: &mut [f32],
 ) -> [Outcome; 8]
     requires { (cameras ≤ 8) × (cameras * size ≤ length list.old) }
     ensures told { result ≡ filled cameras (told frames.now size
-        (lent working.old row.old col.old falling.old
-        rising.old response.old scratch.old list.old)) (replicate 8 no_frame) }
-    ensures buffers { lent working.new row.new col.new falling.new
-        rising.new response.new scratch.new list.new
+        (lent_now work.old list.old)) (replicate 8 no_frame) }
+    ensures same { SameWork work.old work.new }
+    ensures buffers { lent_now work.new list.new
         ≡ left_by frames.now size
-        (lent working.old row.old col.old falling.old
-        rising.old response.old scratch.old list.old) cameras }
+        (lent_now work.old list.old) cameras }
 {
     let mut told = [Outcome::refusal(Answer::FileTooShort); 8];
     let mut rest = frames;
@@ -87,17 +58,7 @@ fn run_cameras(
     for i in 0..cameras {
         let a = i * size;
         let e = a + size;
-        told[i] = run_camera(
-            rest,
-            working,
-            row,
-            col,
-            falling,
-            rising,
-            response,
-            scratch,
-            &mut list[a..e],
-        );
+        told[i] = run_camera(rest, work, &mut list[a..e]);
         rest = &rest[gone_in(rest)..];
     }
     told
@@ -108,23 +69,15 @@ fn run_cameras(
 pub fn run_arch(
     cameras: usize,
     frames: &[u8],
-    working: &mut [u8],
-    row: &mut [u32],
-    col: &mut [u32],
-    falling: &mut [u32],
-    rising: &mut [u32],
-    response: &mut [f32],
-    scratch: &mut [f32],
+    work: &mut WorkBuffers,
     list: &mut [f32],
 ) -> ArchOutcome
     ensures answer { result ≡ arch_outcome cameras frames.now
-        (lent working.old row.old col.old falling.old
-        rising.old response.old scratch.old list.old) }
-    ensures buffers { lent working.new row.new col.new falling.new
-        rising.new response.new scratch.new list.new
+        (lent_now work.old list.old) }
+    ensures same { SameWork work.old work.new }
+    ensures buffers { lent_now work.new list.new
         ≡ arch_buffers cameras frames.now
-        (lent working.old row.old col.old falling.old
-        rising.old response.old scratch.old list.old) }
+        (lent_now work.old list.old) }
 {
     if let Err(answer) = judge_arch(cameras, list.len()) {
         return ArchOutcome {
@@ -133,9 +86,7 @@ pub fn run_arch(
         };
     }
     let size = share_size(cameras, list.len());
-    let told = run_cameras(
-        cameras, size, frames, working, row, col, falling, rising, response, scratch, list,
-    );
+    let told = run_cameras(cameras, size, frames, work, list);
     ArchOutcome {
         answer: Answer::Complete,
         cameras: told,

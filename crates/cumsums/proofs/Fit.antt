@@ -1,6 +1,6 @@
 -- What fitting takes and what it gives, for the callers of `build_cumsums`. Assumes nothing.
 use mathlib.Core.Path.{◌≡◌, ap, ◌∙◌}
-use mathlib.Core.Bool.{Bool, true, false, cond}
+use mathlib.Core.Bool.{Bool, true, cond}
 use mathlib.Core.List.{List}
 use Prim.Native.Nat.{ℕ, ◌*◌, ◌≤◌}
 use native.Mathlib.Omega.{arith}
@@ -52,9 +52,6 @@ module _ (w h n : ℕ) (b : Lent) {room : ℕ} (e : room ≡ room_of n b) {t : B
   when_so q = fitted w h n b (fit_is ∙ q)
 
   module _ (f : ℕ → ℕ → ℕ) where
-    pub when_not : t ≡ false → b ≡ cond (tables_fit w h n b) (tables_of f w h b) b
-    when_not q = rw (fit_is, q)
-
     -- what the passes leave
     pub when_done : t ≡ true → {row col falling rising : List ℕ}
         → row ≡ table_of along f w h b.row → col ≡ table_of down f w h b.col → falling ≡ table_of fall f w h b.falling

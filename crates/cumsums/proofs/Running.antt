@@ -14,8 +14,7 @@ use Rattle.grid.specs.Span.{span}
 use Rattle.grid.proofs.Span.{row-span}
 use Rattle.grid.specs.Ways.{Way, along, down, fall, rise, pixel}
 use Rattle.cumsums.specs.Tables.{table_at, table_of}
-use Rattle.cumsums.specs.Passes.{Above, Carries, way_of}
-use Rattle.cumsums.specs.declared.Diagonal.{Diagonal}
+use Rattle.cumsums.specs.Passes.{Above, Carries}
 use Rattle.cumsums.proofs.Summed.{Begins, Goes, beforex, beforey, table_first, table_on, table_most}
 
 -- how many entries before a pixel's entry that of the pixel before it on the line stands
@@ -191,14 +190,6 @@ module _ (img : List ℕ) (w y : ℕ) (xs : List ℕ) {n : ℕ} (g : Going w y n
       row-whole rise img w y xs
       (row_begun rise img w y xs {lo = n} {hi = w} r (going_most g) (omega arith) refl refl q (λ x l m. rise_begins x l m))
 
--- which diagonal it is
-pub above_as : {d e : Diagonal} → d ≡ e → {img : List ℕ} {w y : ℕ} {xs : List ℕ} → Above (way_of d) img w y xs → Above (way_of e) img w y xs
-above_as p a = rw p at a
-
-pub table_as : {d e : Diagonal} → d ≡ e → (f : ℕ → ℕ → ℕ) (w h : ℕ) (xs : List ℕ) {zs : List ℕ} → zs ≡ table_of (way_of e) f w h xs
-    → zs ≡ table_of (way_of d) f w h xs
-table_as p f w h xs z = rw p z
-
 -- ---- the sum that is carried along a row: with the pixel at x it is the entry
 
 pub record Carried (img : List ℕ) (w y x acc : ℕ) : Type 0 where
@@ -209,10 +200,14 @@ module _ (img : List ℕ) (w y : ℕ) where
   unfolding table_at
   carried_none = record { is = omega arith }
 
-  pub carried_more : {x acc : ℕ} → Carried img w y x acc → Carried img w y (x + 1) (acc + pixel img w x y)
-  carried_more {x} {acc} c =
+  -- what is stored
+  pub carried_entry : {x acc p : ℕ} → Carried img w y x acc → p ≡ pixel img w x y → acc + p ≡ table_at along (pixel img w) w x y
+  carried_entry c q = rw q c.is
+
+  pub carried_more : {x acc p : ℕ} → Carried img w y x acc → p ≡ pixel img w x y → Carried img w y (x + 1) (acc + p)
+  carried_more {x} {acc} {p} c q =
       let n : x ≡ x + 1 - 1 = omega arith in
-      let e : acc + pixel img w x y ≡ table_at along (pixel img w) w (x + 1 - 1) y = c.is ∙ ap (λ (k : ℕ). table_at along (pixel img w) w k y) n in
+      let e : acc + p ≡ table_at along (pixel img w) w (x + 1 - 1) y = carried_entry c q ∙ ap (λ (k : ℕ). table_at along (pixel img w) w k y) n in
       record { is = ap (λ (k : ℕ). k + pixel img w (x + 1) y) e ∙ table_on (pixel img w) w along (x + 1) y (omega arith) }
 
   -- it fits

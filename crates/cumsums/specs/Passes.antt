@@ -1,9 +1,7 @@
 -- What the passes that fill a table ask and promise of the rows above.
 use Rattle.std.specs.Prelude.{◌≡◌, List, ℕ, ◌+◌, ◌*◌, ◌≤◌, ◌<◌, length, get_or}
-use Rattle.grid.specs.Ways.{Way, fall, rise, pixel}
+use Rattle.grid.specs.Ways.{Way, pixel}
 use Rattle.cumsums.specs.Tables.{table_of}
-use Rattle.cumsums.specs.declared.Diagonal.{Diagonal}
-use Rattle.cumsums.specs.declared.Diagonal.TheVariants.{Falling, Rising}
 
 -- entries a to e - 1 can each take the one that is `back` before: that lies before the run, and is small
 pub record Carries (img out : List ℕ) (a e back : ℕ) : Type 0 where
@@ -21,7 +19,3 @@ pub record Above (d : Way) (img : List ℕ) (w y : ℕ) (out : List ℕ) : Type 
   pub image : y * w + w ≤ length img
   pub room : y * w + w ≤ length out
   pub done : out ≡ table_of d (pixel img w) w y out
-
-abbrev pub way_of : Diagonal → Way
-way_of Falling = fall
-way_of Rising = rise

@@ -2,10 +2,12 @@
 #![tactic(auto)]
 
 ghost use Rattle.std.specs.Prelude.{◌≡◌};
-ghost use Rattle.radon.specs.Finder.{lent};
+ghost use Rattle.response.specs.Work.{SameWork};
+ghost use Rattle.radon.specs.Finder.{lent_now};
 ghost use Rattle.frame_runner.specs.FileAnswer.{file_outcome, file_buffers};
 
 use params::Outcome;
+use response::WorkBuffers;
 
 // What a frame file is answered, over buffers that the caller lends: the file's own refusal, 10 where it has more than `limit` bytes, or what the
 // finder makes of its frame.
@@ -13,23 +15,13 @@ use params::Outcome;
 pub fn run_frame_file(
     file: &[u8],
     limit: usize,
-    working: &mut [u8],
-    row: &mut [u32],
-    col: &mut [u32],
-    falling: &mut [u32],
-    rising: &mut [u32],
-    response: &mut [f32],
-    scratch: &mut [f32],
+    work: &mut WorkBuffers,
     list: &mut [f32],
 ) -> Outcome
-    ensures answer { result ≡ file_outcome limit file.now
-        (lent working.old row.old col.old falling.old
-        rising.old response.old scratch.old list.old) }
-    ensures buffers { lent working.new row.new col.new falling.new
-        rising.new response.new scratch.new list.new
-        ≡ file_buffers limit file.now
-        (lent working.old row.old col.old falling.old
-        rising.old response.old scratch.old list.old) }
+    ensures answer { result ≡ file_outcome limit file.now (lent_now work.old list.old) }
+    ensures same { SameWork work.old work.new }
+    ensures buffers { lent_now work.new list.new
+        ≡ file_buffers limit file.now (lent_now work.old list.old) }
 {
     match frame::read(file, limit) {
         Err(answer) => Outcome::refusal(answer),
@@ -38,13 +30,7 @@ pub fn run_frame_file(
             header.width,
             header.height,
             header.params,
-            working,
-            row,
-            col,
-            falling,
-            rising,
-            response,
-            scratch,
+            work,
             list,
         ),
     }

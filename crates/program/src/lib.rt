@@ -6,8 +6,10 @@ ghost use Rattle.lines.specs.Printed.{printed};
 ghost use Rattle.frame_runner.specs.FileAnswer.{file_outcome, file_buffers};
 ghost use Rattle.program.specs.Program.{limit, blank, lines_of};
 
+use cumsums::Tables;
 use frame_runner::run_frame_file;
 use params::Outcome;
+use response::WorkBuffers;
 
 // The bytes of the longest frame file: 20 before the pixels, and 2,304 pixels.
 const LIMIT: usize = 2324;
@@ -24,18 +26,18 @@ pub fn run_with_room(file: &[u8], list: &mut [f32]) -> Outcome
     let mut rising = [0u32; 2304];
     let mut response = [0.0f32; 2304];
     let mut scratch = [0.0f32; 2304];
-    run_frame_file(
-        file,
-        LIMIT,
-        &mut working,
-        &mut row,
-        &mut col,
-        &mut falling,
-        &mut rising,
-        &mut response,
-        &mut scratch,
-        list,
-    )
+    let work = &mut WorkBuffers {
+        working: &mut working,
+        tables: Tables {
+            row: &mut row,
+            col: &mut col,
+            falling: &mut falling,
+            rising: &mut rising,
+        },
+        response: &mut response,
+        scratch: &mut scratch,
+    };
+    run_frame_file(file, LIMIT, work, list)
 }
 
 // What the program answers to what it has read, with a list for 256 corners. The input has one byte more than the longest frame file, so that a

@@ -10,6 +10,8 @@ use Rattle.params.specs.declared.answers.Outcome.{Outcome}
 use Rattle.params.specs.Answers.{refused}
 use Rattle.params.specs.Refusals.{refusal_of}
 use Rattle.response.specs.Map.{Buffers as MapBuffers, map_lent, room_of, side_of, work_of, map_of, mapped, accepts}
+use Rattle.response.specs.declared.WorkBuffers.{WorkBuffers}
+use Rattle.response.specs.Work.{map_now}
 use Rattle.detect.specs.Corners.{corners, verdicts_of, numbers, stride}
 use Rattle.detect.specs.Detected.{full_or}
 
@@ -22,6 +24,10 @@ pub record Buffers : Type 0 where
 abbrev pub lent : List ℕ → List ℕ → List ℕ → List ℕ → List ℕ → List Float → List Float → List Float → Buffers
 lent working row col falling rising response scratch list =
     record { map = map_lent working row col falling rising response scratch; list = list }
+
+-- what the seven and the list hold
+abbrev pub lent_now : WorkBuffers → List Float → Buffers
+lent_now work list = record { map = map_now work; list = list }
 
 -- an image of bytes, which every lent `&[u8]` is: the theorems that need it ask for it
 abbrev pub Bytes : List ℕ → Type 0

@@ -2,42 +2,32 @@
 #![tactic(auto)]
 
 ghost use Rattle.std.specs.Prelude.{◌≡◌};
-ghost use Rattle.radon.specs.Finder.{lent, outcome_of, buffers_of};
+ghost use Rattle.radon.specs.Finder.{lent_now, outcome_of, buffers_of};
+ghost use Rattle.response.specs.Work.{SameWork};
 
 use params::{Outcome, RadonDetectorParams};
-use response::radon_response_u8;
+use response::{WorkBuffers, radon_response_u8};
 
-// Each buffer but the list needs an entry for every work pixel; the list takes three numbers a corner: x, y, strength.
+// The list takes three numbers a corner: x, y, strength.
 // A frame with no place inside the border is refused: it is not one without corners.
 pub fn radon_corners_u8(
     img: &[u8],
     w: usize,
     h: usize,
     p: RadonDetectorParams,
-    work: &mut [u8],
-    row: &mut [u32],
-    col: &mut [u32],
-    fall: &mut [u32],
-    rise: &mut [u32],
-    resp: &mut [f32],
-    scratch: &mut [f32],
+    work: &mut WorkBuffers,
     list: &mut [f32],
 ) -> Outcome
-    ensures answer { result ≡ outcome_of img.now w h p
-        (lent work.old row.old col.old fall.old rise.old
-        resp.old scratch.old list.old) }
-    ensures buffers { lent work.new row.new col.new fall.new rise.new
-        resp.new scratch.new list.new
-        ≡ buffers_of img.now w h p
-        (lent work.old row.old col.old fall.old rise.old
-        resp.old scratch.old list.old) }
+    ensures answer { result ≡ outcome_of img.now w h p (lent_now work.old list.old) }
+    ensures same { SameWork work.old work.new }
+    ensures buffers { lent_now work.new list.new
+        ≡ buffers_of img.now w h p (lent_now work.old list.old) }
 {
-    let tables = row.len().min(col.len()).min(fall.len().min(rise.len()));
-    let floats = resp.len().min(scratch.len());
-    let room = work.len().min(tables.min(floats));
-    if let Err(answer) = params::judge_finder_call(w, h, img.len(), p, room) {
+    if let Err(answer) = params::judge_finder_call(w, h, img.len(), p, work.room()) {
         return Outcome::refusal(answer);
     }
-    let map = radon_response_u8(img, w, h, p, work, row, col, fall, rise, resp, scratch);
-    detect::detect_peaks_from_radon(resp, work, map.w, map.h, p, list)
+    let map = radon_response_u8(img, w, h, p, work);
+    let response = &mut *work.response;
+    let working = &mut *work.working;
+    detect::detect_peaks_from_radon(response, working, map.w, map.h, p, list)
 }

@@ -1,6 +1,6 @@
 -- What fitting takes and what it gives, for the callers of `ray_response`. Assumes nothing.
 use mathlib.Core.Path.{◌≡◌, sym, ap, ◌∙◌}
-use mathlib.Core.Bool.{Bool, true, false, cond}
+use mathlib.Core.Bool.{Bool, true, cond}
 use mathlib.Core.List.{List}
 use Prim.Native.Nat.{ℕ, ◌*◌, ◌≤◌}
 use native.Mathlib.Omega.{arith}
@@ -76,9 +76,6 @@ module _ (w h r n : ℕ) (b : Lent) where
 -- ---- the door's own cases
 
 module _ (f : ℕ → ℕ → ℕ) (w h r n : ℕ) (b : Lent) where
-  pub when_not : {t : Bool} → t ≡ rays_fit w h r n b → t ≡ false → b ≡ cond (rays_fit w h r n b) (rays_of f w h r b) b
-  when_not e q = rw (sym e ∙ q)
-
   pub when_so : {t : Bool} → t ≡ rays_fit w h r n b → t ≡ true → Fitted w h r n b
   when_so e q = fitted w h r n b (sym e ∙ q)
 

@@ -29,9 +29,6 @@ module _ (w h r x y : ℕ) where
 
 -- a test that was made
 module _ (w h r x y : ℕ) {t : Bool} (e : t ≡ within w h r x y) where
-  pub found_in : t ≡ true → Inside w h r x y
-  found_in q = inside_of w h r x y (rw (sym e ∙ q) tt)
-
   pub found_out : (f : ℕ → ℕ → ℕ) → t ≡ false → f0 ≡ response_at f w h r x y
   unfolding response_at
   found_out f q = rw (sym e ∙ q)

@@ -1,16 +1,14 @@
--- The eight entries about a pixel give its four rays, and none of the numbers on the way wraps. Assumes nothing.
+-- The eight entries about a pixel give its four rays. Assumes nothing.
 use mathlib.Core.Path.{◌≡◌, refl, ap, ◌∙◌}
 use mathlib.Core.Bool.{cond}
 use mathlib.Core.List.{List}
 use Prim.Native.Nat.{ℕ, ◌+◌, ◌-◌, ◌*◌, ◌≤◌, ◌<◌, min}
-use native.Mathlib.Nat.{mul-le-mul, mul-le-mul_left}
+use native.Mathlib.Nat.{mul-le-mul_left}
 use native.Mathlib.Omega.{arith}
 use native.Mathlib.Decide.{dec_lt}
 use lib.Dec.{ltb, leb}
 use lib.ListN.{length, get_or}
 use lib.Ieee.{Float}
-use mir.Syntax.{w64}
-use mir.Val.{Fits}
 use borrow.Author.Tests.{lt-ltb, le-ltb, le-leb, lt-leb}
 use Rattle.grid.proofs.Plane.{row_in}
 use Rattle.grid.specs.Ways.{Way, along, down, fall, rise, ray, Holds, Entry, Reach, Inside, Deep, up_to}
@@ -140,18 +138,6 @@ pub deep_cast : {w r x y : ℕ} {row col falling rising : List ℕ} → DeepRays
     (get_or rising ((y + r) * w + x - r) 0 - get_or rising ((y - (r + 1)) * w + x + (r + 1)) 0)
 deep_cast e = record { on_row = e.on_row.is; on-col = e.on-col.is; on-falling = e.on-falling.is; on-rising = e.on-rising.is }
 
-small : {n : ℕ} → n ≤ 67108864 → Fits w64 n
-small l = record { fits = omega arith }
-
--- the numbers on the way to them
-pub record DeepPlaces (w r x y : ℕ) : Type 0 where
-  pub past : Fits w64 (r + 1)
-  pub here : Fits w64 (y * w) × Fits w64 (y * w + x) × Fits w64 (y * w + x + r) × (r + 1 ≤ y * w + x)
-  pub below : Fits w64 (y + r) × Fits w64 ((y + r) * w) × Fits w64 ((y + r) * w + x) × Fits w64 ((y + r) * w + x + r)
-      × (r ≤ (y + r) * w + x)
-  pub above : (r + 1 ≤ y) × Fits w64 ((y - (r + 1)) * w) × Fits w64 ((y - (r + 1)) * w + x)
-      × Fits w64 ((y - (r + 1)) * w + x + (r + 1)) × (r + 1 ≤ (y - (r + 1)) * w + x)
-
 module _ {w h r x y : ℕ} {row col falling rising : List ℕ} (t : Held w h row col falling rising) (m : Deep w h r x y) where
   -- where the rows y, y + r and y - r - 1 end
   rows : (y * w + w ≤ w * h) × ((y + r) * w + w ≤ w * h) × ((y - (r + 1)) * w + w ≤ w * h)
@@ -167,17 +153,4 @@ module _ {w h r x y : ℕ} {row col falling rising : List ℕ} (t : Held w h row
         on-col = deep_ray down t.columns m t.col-long (omega arith) (omega arith) (omega arith);
         on-falling = deep_ray fall t.falls m t.falling-long (omega arith) (omega arith) (omega arith);
         on-rising = deep_ray rise t.rises m t.rising-long (omega arith) (omega arith) (omega arith);
-      }
-
-  pub deep_places : DeepPlaces w r x y
-  deep_places =
-      let k = rows in
-      let a : w * h ≤ 67108864 = mul-le-mul t.wide t.high in
-      let u = t.wide in
-      let v = t.high in
-      record {
-        past = small (omega arith);
-        here = (small (omega arith), small (omega arith), small (omega arith), omega arith);
-        below = (small (omega arith), small (omega arith), small (omega arith), small (omega arith), omega arith);
-        above = (omega arith, small (omega arith), small (omega arith), small (omega arith), omega arith);
       }

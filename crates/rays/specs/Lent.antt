@@ -5,6 +5,7 @@ use Rattle.grid.specs.Plane.{plane}
 use Rattle.grid.specs.Ways.{along, down, fall, rise}
 use Rattle.sizes.specs.Fits.{fits_in}
 use Rattle.cumsums.specs.Tables.{table_of}
+use Rattle.cumsums.specs.declared.Tables.{Tables}
 use Rattle.rays.specs.Response.{response_at}
 
 -- the four tables and the response
@@ -17,6 +18,10 @@ pub record Lent : Type 0 where
 
 abbrev pub tabled : List ℕ → List ℕ → List ℕ → List ℕ → List Float → Lent
 tabled row col falling rising response = record { row = row; col = col; falling = falling; rising = rising; response = response }
+
+-- what they hold
+abbrev pub tabled_now : Tables → List Float → Lent
+tabled_now b response = tabled b.row.now b.col.now b.falling.now b.rising.now response
 
 -- of an image f, w wide and h high, at ray radius r: "the first W·H entries of .. tables and response are written .. Entries beyond stay."
 unfoldable pub rays_of : (ℕ → ℕ → ℕ) → ℕ → ℕ → ℕ → Lent → Lent

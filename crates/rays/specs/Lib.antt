@@ -3,3 +3,4 @@
 pub mod Response
 pub mod Lent
 pub mod Shown
+pub mod Read

@@ -1,8 +1,7 @@
 -- What the response's functions ask of the four tables, and what they promise by them: the tables alone show the image that they are of.
-use Rattle.std.specs.Prelude.{cond, List, ℕ, zero, suc, ◌+◌, ◌-◌, ◌*◌, ◌≤◌, ◌<◌, ltb, leb, length, get_or, Float}
+use Rattle.std.specs.Prelude.{◌≡◌, cond, List, ℕ, zero, suc, ◌+◌, ◌-◌, ◌*◌, ◌≤◌, ◌<◌, ltb, leb, length, get_or, Float}
 use Rattle.grid.specs.Ways.{along, down, fall, rise, Holds, Deep}
-use Rattle.rays.specs.Response.{response_at}
-use Rattle.rays.specs.declared.rays.Row.{Row}
+use Rattle.rays.specs.declared.Size.{Size}
 
 -- each entry of the row table less the one before it
 unfoldable pub shown : List ℕ → ℕ → ℕ → ℕ → ℕ
@@ -34,23 +33,10 @@ pub record Between (t : List ℕ) (w x0 y0 x1 y1 : ℕ) : Type 0 where
   pub long : (w * y0 ≤ length t) × (w * y1 ≤ length t)
   pub least : entry_at t w x0 y0 ≤ entry_at t w x1 y1
 
--- the response in column x of a row
-abbrev pub read_at : List ℕ → Row → ℕ → Float
-read_at row at x = response_at (shown row at.w) at.w at.h at.r x at.y
+-- the columns a to e - 1 of row y are deep in the image
+abbrev pub AllDeep : Size → ℕ → ℕ → ℕ → Type 0
+AllDeep s y a e = (x : ℕ) → a ≤ x → x < e → Deep s.w s.h s.r x y
 
--- a row of an image that the radius allows
-pub record Short (at : Row) : Type 0 where
-  pub short : at.r ≤ 7
-  pub wide : at.w ≤ 8192
-  pub high : at.h ≤ 8192
-  pub low : at.y < at.h
-
--- and its tables
-pub record Readable (at : Row) (row col falling rising : List ℕ) : Type 0 where
-  pub short : at.r ≤ 7
-  pub low : at.y < at.h
-  pub tables : Held at.w at.h row col falling rising
-
--- the columns a to e - 1 are deep in the image
-abbrev pub AllDeep : Row → ℕ → ℕ → Type 0
-AllDeep at a e = (x : ℕ) → a ≤ x → x < e → Deep at.w at.h at.r x at.y
+-- g is what calls give, by their results, for the columns a to e - 1
+abbrev pub Computes : (ℕ → Float → Type 0) → (ℕ → Float) → ℕ → ℕ → Type 0
+Computes gives g a e = (x : ℕ) (v : Float) → a ≤ x → x < e → gives x v → v ≡ g x

@@ -5,3 +5,4 @@ pub mod Cases
 pub mod MapFacts
 pub mod Places
 pub mod Beyond
+pub mod Same

@@ -12,17 +12,19 @@ ghost use Rattle.scalar.specs.Log.{log_of, terms, high};
 ghost use Rattle.scalar.specs.Root.{root_of};
 ghost use Rattle.params.specs.Answers.{number_of};
 ghost use Rattle.response.specs.Map.{map_lent, mapped_of, map_buffers_of};
-ghost use Rattle.radon.specs.Finder.{lent};
+ghost use Rattle.response.specs.Work.{SameWork};
+ghost use Rattle.radon.specs.Finder.{lent, lent_now};
 ghost use Rattle.arch.specs.Arch.{arch_outcome, arch_buffers};
 ghost use Rattle.record.specs.Record.{version, stride, write_outcome, written, read_outcome, read_back};
 ghost use Rattle.steyrbunk_c.specs.Called.{settings_of, map_settings, reported, told, map_reported, map_told, verdict_numbers, camera_numbers};
 ghost use Rattle.steyrbunk_c.specs.Called.{called_outcome, called_buffers, called_peaks, called_list};
 
 use arch::run_arch;
+use cumsums::Tables;
 use params::{Answer, Outcome, PeakFitMode, RadonDetectorParams, Verdicts};
 use radon::radon_corners_u8;
 use record::{read_record, write_record};
-use response::radon_response_u8;
+use response::{WorkBuffers, radon_response_u8};
 
 // The settings that a call's numbers give, or answer 14, where the number of the mode is above 1.
 fn settings_of(
@@ -71,9 +73,28 @@ fn verdict_numbers(v: Verdicts) -> [usize; 6]
     ]
 }
 
+// The finder by the settings, or their refusal.
+fn corners_by(
+    p: Result<RadonDetectorParams, Answer>,
+    img: &[u8],
+    w: usize,
+    h: usize,
+    work: &mut WorkBuffers,
+    out: &mut [f32],
+) -> Outcome
+    ensures answer { result ≡ called_outcome p img.now w h (lent_now work.old out.old) }
+    ensures same { SameWork work.old work.new }
+    ensures buffers { lent_now work.new out.new ≡ called_buffers p img.now w h (lent_now work.old out.old) }
+{
+    match p {
+        Ok(p) => radon_corners_u8(img, w, h, p, work, out),
+        Err(answer) => Outcome::refusal(answer),
+    }
+}
+
 // The finder: map and list of an image in one call.
 #[unsafe(no_mangle)]
-pub extern "C" fn steyrbunk_corners(
+pub extern "C" fn steyrbunk_corners<'a>(
     img: &[u8],
     w: usize,
     h: usize,
@@ -84,13 +105,13 @@ pub extern "C" fn steyrbunk_corners(
     threshold: f32,
     nms: u32,
     least: u32,
-    work: &mut [u8],
-    row: &mut [u32],
-    col: &mut [u32],
-    fall: &mut [u32],
-    rise: &mut [u32],
-    resp: &mut [f32],
-    scratch: &mut [f32],
+    work: &'a mut [u8],
+    row: &'a mut [u32],
+    col: &'a mut [u32],
+    fall: &'a mut [u32],
+    rise: &'a mut [u32],
+    resp: &'a mut [f32],
+    scratch: &'a mut [f32],
     out: &mut [f32],
     count: &mut usize,
     ww: &mut usize,
@@ -111,10 +132,19 @@ pub extern "C" fn steyrbunk_corners(
         (lent work.old row.old col.old fall.old rise.old
         resp.old scratch.old out.old) }
 {
-    let o = match settings_of(ray, up, blur, fit, threshold, nms, least) {
-        Ok(p) => radon_corners_u8(img, w, h, p, work, row, col, fall, rise, resp, scratch, out),
-        Err(answer) => Outcome::refusal(answer),
+    let work = &mut WorkBuffers {
+        working: work,
+        tables: Tables {
+            row,
+            col,
+            falling: fall,
+            rising: rise,
+        },
+        response: resp,
+        scratch,
     };
+    let p = settings_of(ray, up, blur, fit, threshold, nms, least);
+    let o = corners_by(p, img, w, h, work, out);
     *verdicts = verdict_numbers(o.verdicts);
     tell(o, count, ww, wh)
 }
@@ -151,16 +181,16 @@ fn tell_cameras(cameras: [Outcome; 8], told: &mut [usize])
 
 // All cameras of an arch: frame files end to end, and as many equal shares of the list as there are cameras.
 #[unsafe(no_mangle)]
-pub extern "C" fn steyrbunk_run_arch(
+pub extern "C" fn steyrbunk_run_arch<'a>(
     cameras: usize,
     frames: &[u8],
-    work: &mut [u8],
-    row: &mut [u32],
-    col: &mut [u32],
-    fall: &mut [u32],
-    rise: &mut [u32],
-    resp: &mut [f32],
-    scratch: &mut [f32],
+    work: &'a mut [u8],
+    row: &'a mut [u32],
+    col: &'a mut [u32],
+    fall: &'a mut [u32],
+    rise: &'a mut [u32],
+    resp: &'a mut [f32],
+    scratch: &'a mut [f32],
     out: &mut [f32],
     told: &mut [usize; 80],
 ) -> u32
@@ -176,9 +206,18 @@ pub extern "C" fn steyrbunk_run_arch(
         (lent work.old row.old col.old fall.old rise.old
         resp.old scratch.old out.old) }
 {
-    let o = run_arch(
-        cameras, frames, work, row, col, fall, rise, resp, scratch, out,
-    );
+    let work = &mut WorkBuffers {
+        working: work,
+        tables: Tables {
+            row,
+            col,
+            falling: fall,
+            rising: rise,
+        },
+        response: resp,
+        scratch,
+    };
+    let o = run_arch(cameras, frames, work, out);
     tell_cameras(o.cameras, told);
     o.answer.number()
 }
@@ -200,20 +239,20 @@ fn map_settings(ray: u32, up: u32, blur: u32) -> RadonDetectorParams
 
 // The map alone.
 #[unsafe(no_mangle)]
-pub extern "C" fn steyrbunk_response(
+pub extern "C" fn steyrbunk_response<'a>(
     img: &[u8],
     w: usize,
     h: usize,
     ray: u32,
     up: u32,
     blur: u32,
-    work: &mut [u8],
-    row: &mut [u32],
-    col: &mut [u32],
-    fall: &mut [u32],
-    rise: &mut [u32],
-    resp: &mut [f32],
-    scratch: &mut [f32],
+    work: &'a mut [u8],
+    row: &'a mut [u32],
+    col: &'a mut [u32],
+    fall: &'a mut [u32],
+    rise: &'a mut [u32],
+    resp: &'a mut [f32],
+    scratch: &'a mut [f32],
     ww: &mut usize,
     wh: &mut usize,
 ) -> u32
@@ -228,7 +267,18 @@ pub extern "C" fn steyrbunk_response(
         resp.old scratch.old) }
 {
     let p = map_settings(ray, up, blur);
-    let m = radon_response_u8(img, w, h, p, work, row, col, fall, rise, resp, scratch);
+    let work = &mut WorkBuffers {
+        working: work,
+        tables: Tables {
+            row,
+            col,
+            falling: fall,
+            rising: rise,
+        },
+        response: resp,
+        scratch,
+    };
+    let m = radon_response_u8(img, w, h, p, work);
     *ww = m.w;
     *wh = m.h;
     m.answer.number()

@@ -1,6 +1,6 @@
 -- `arch::run_arch` meets its contract: refused by 21, or camera after camera. Assumes nothing.
 use lib.ListN.{length}
-use Rattle.radon.specs.Finder.{Buffers, lent}
+use Rattle.radon.specs.Finder.{Buffers, lent_now}
 use Rattle.arch_plan.proofs.InList.{shares_in}
 use Rattle.arch.proofs.Call.{taken, when_refused, when_taken}
 use Rattle.arch.proofs.run_arch.Goals.{Start}
@@ -9,7 +9,7 @@ use Rattle.arch.proofs.run_arch.Goals as goal
 abbrev given : Start → Buffers
 given c =
     let o = c.args in
-    lent o.working.now o.row.now o.col.now o.falling.now o.rising.now o.response.now o.scratch.now o.list.now
+    lent_now o.work.now o.list.now
 
 pub returns-in-Err-clause-answer : goal.returns-in-Err-clause-answer
 returns-in-Err-clause-answer c =

@@ -1,6 +1,6 @@
 -- `carry`: a turn stores the pixel and the entry `back` before, which no turn of the run has changed. Assumes nothing.
-use mathlib.Core.Path.{◌≡◌, ap}
-use Prim.Native.Nat.{ℕ, ◌+◌, ◌-◌, ◌≤◌}
+use mathlib.Core.Path.{◌≡◌}
+use Prim.Native.Nat.{◌-◌, ◌≤◌}
 use native.Mathlib.Omega.{arith}
 use lib.ListN.{get_or}
 use Rattle.grid.proofs.Span.{spanning_none, spanning_more, spanning_before}
@@ -29,4 +29,4 @@ overflow_add-out c =
 pub loop-i-preserved : goal.loop-i-preserved
 loop-i-preserved c =
     spanning_more _ _ _ _ c.loop-i.invariant c.loop-i-test.true
-    (ap (λ (n : ℕ). n + get_or c.args.img.now c.loop-i.i 0) (kept (goal.at.loop-i-preserved c).In-loop-i))
+    (let e = kept (goal.at.loop-i-preserved c).In-loop-i in cc (c.from.ensures, e))

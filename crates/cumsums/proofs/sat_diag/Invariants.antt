@@ -1,9 +1,0 @@
--- `sat_diag`: a turn fills row y. Assumes nothing.
-use Rattle.grid.proofs.Loops.{Rows}
-use Rattle.grid.specs.Ways.{pixel}
-use Rattle.cumsums.specs.Tables.{table_at}
-use Rattle.cumsums.specs.Passes.{way_of}
-use Rattle.cumsums.proofs.sat_diag.Given as goal
-
-abbrev pub invariant-loop-y : goal.invariant-loop-y
-invariant-loop-y l = Rows l.w l.h (table_at (way_of l.d) (pixel l.img l.w) l.w) l.initial.out l.out l.y

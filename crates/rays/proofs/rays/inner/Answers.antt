@@ -1,9 +1,0 @@
--- `inner`: a turn stores the response of a pixel whose eight entries are in the image. Assumes nothing.
-use Rattle.grid.proofs.Loops.{line-none, line_more}
-use Rattle.rays.proofs.rays.inner.Goals as goal
-
-pub loop-i-init : goal.loop-i-init
-loop-i-init c = line-none _ _ _
-
-pub loop-i-preserved : goal.loop-i-preserved
-loop-i-preserved c = line_more _ _ _ c.loop-i.invariant c.loop-i-test.true c.deep_response.ensures
