@@ -1,48 +1,24 @@
-// Sizes compared: the lesser and the larger of two, a difference that stops at 0, and whether a map fits into a buffer and a square into the map.
+// Sizes compared: whether a map fits into a buffer, and a square into the map.
 #![tactic(auto)]
 
-ghost use Rattle.std.specs.Prelude.{◌≡◌, ◌-◌, min, max};
+ghost use Rattle.std.specs.Prelude.{◌≡◌};
 ghost use Rattle.sizes.specs.Fits.{fits_in, clear_of, square_fits};
 
 // Twice the input's longest side.
 const MAX_WORKING_SIDE: usize = 8192;
 
-pub fn lesser(a: usize, b: usize) -> usize
-    ensures { result ≡ min a b }
-{
-    if a < b { a } else { b }
-}
-
-pub fn larger(a: usize, b: usize) -> usize
-    ensures { result ≡ max a b }
-{
-    if a < b { b } else { a }
-}
-
-// a - b, and 0 where that would be below it.
-pub fn less(a: usize, b: usize) -> usize
-    ensures { result ≡ a - b }
-{
-    if a < b { 0 } else { a - b }
-}
-
 // Whether w·h entries, no side over that of a working image, are no more than `room`.
 pub fn fits(w: usize, h: usize, room: usize) -> bool
     ensures { result ≡ fits_in w h room }
 {
-    if w <= MAX_WORKING_SIDE {
-        if h <= MAX_WORKING_SIDE {
-            return w * h <= room;
-        }
-    }
-    false
+    w <= MAX_WORKING_SIDE && h <= MAX_WORKING_SIDE && w * h <= room
 }
 
 // Whether k to either side of c lies between 0 and n.
 fn clear(k: usize, c: usize, n: usize) -> bool
     ensures { result ≡ clear_of k c n }
 {
-    (k <= c) & (k < less(n, c))
+    (k <= c) & (k < n.saturating_sub(c))
 }
 
 // Whether the square of side 2 k + 1 around x, y lies in a map w wide and h high, and the map in a buffer of `room` entries.
