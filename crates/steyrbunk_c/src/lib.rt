@@ -20,7 +20,6 @@ ghost use Rattle.steyrbunk_c.specs.Called.{settings_of, map_settings, reported, 
 ghost use Rattle.steyrbunk_c.specs.Called.{called_outcome, called_buffers, called_peaks, called_list};
 
 use arch::run_arch;
-use cumsums::Tables;
 use params::{Answer, Outcome, PeakFitMode, RadonDetectorParams, Verdicts};
 use radon::radon_corners_u8;
 use record::{read_record, write_record};
@@ -94,7 +93,7 @@ fn corners_by(
 
 // The finder: map and list of an image in one call.
 #[unsafe(no_mangle)]
-pub extern "C" fn steyrbunk_corners<'a>(
+pub extern "C" fn steyrbunk_corners(
     img: &[u8],
     w: usize,
     h: usize,
@@ -105,13 +104,13 @@ pub extern "C" fn steyrbunk_corners<'a>(
     threshold: f32,
     nms: u32,
     least: u32,
-    work: &'a mut [u8],
-    row: &'a mut [u32],
-    col: &'a mut [u32],
-    fall: &'a mut [u32],
-    rise: &'a mut [u32],
-    resp: &'a mut [f32],
-    scratch: &'a mut [f32],
+    work: &mut [u8],
+    row: &mut [u32],
+    col: &mut [u32],
+    fall: &mut [u32],
+    rise: &mut [u32],
+    resp: &mut [f32],
+    scratch: &mut [f32],
     out: &mut [f32],
     count: &mut usize,
     ww: &mut usize,
@@ -134,12 +133,10 @@ pub extern "C" fn steyrbunk_corners<'a>(
 {
     let work = &mut WorkBuffers {
         working: work,
-        tables: Tables {
-            row,
-            col,
-            falling: fall,
-            rising: rise,
-        },
+        row,
+        col,
+        falling: fall,
+        rising: rise,
         response: resp,
         scratch,
     };
@@ -181,16 +178,16 @@ fn tell_cameras(cameras: [Outcome; 8], told: &mut [usize])
 
 // All cameras of an arch: frame files end to end, and as many equal shares of the list as there are cameras.
 #[unsafe(no_mangle)]
-pub extern "C" fn steyrbunk_run_arch<'a>(
+pub extern "C" fn steyrbunk_run_arch(
     cameras: usize,
     frames: &[u8],
-    work: &'a mut [u8],
-    row: &'a mut [u32],
-    col: &'a mut [u32],
-    fall: &'a mut [u32],
-    rise: &'a mut [u32],
-    resp: &'a mut [f32],
-    scratch: &'a mut [f32],
+    work: &mut [u8],
+    row: &mut [u32],
+    col: &mut [u32],
+    fall: &mut [u32],
+    rise: &mut [u32],
+    resp: &mut [f32],
+    scratch: &mut [f32],
     out: &mut [f32],
     told: &mut [usize; 80],
 ) -> u32
@@ -208,12 +205,10 @@ pub extern "C" fn steyrbunk_run_arch<'a>(
 {
     let work = &mut WorkBuffers {
         working: work,
-        tables: Tables {
-            row,
-            col,
-            falling: fall,
-            rising: rise,
-        },
+        row,
+        col,
+        falling: fall,
+        rising: rise,
         response: resp,
         scratch,
     };
@@ -239,20 +234,20 @@ fn map_settings(ray: u32, up: u32, blur: u32) -> RadonDetectorParams
 
 // The map alone.
 #[unsafe(no_mangle)]
-pub extern "C" fn steyrbunk_response<'a>(
+pub extern "C" fn steyrbunk_response(
     img: &[u8],
     w: usize,
     h: usize,
     ray: u32,
     up: u32,
     blur: u32,
-    work: &'a mut [u8],
-    row: &'a mut [u32],
-    col: &'a mut [u32],
-    fall: &'a mut [u32],
-    rise: &'a mut [u32],
-    resp: &'a mut [f32],
-    scratch: &'a mut [f32],
+    work: &mut [u8],
+    row: &mut [u32],
+    col: &mut [u32],
+    fall: &mut [u32],
+    rise: &mut [u32],
+    resp: &mut [f32],
+    scratch: &mut [f32],
     ww: &mut usize,
     wh: &mut usize,
 ) -> u32
@@ -269,12 +264,10 @@ pub extern "C" fn steyrbunk_response<'a>(
     let p = map_settings(ray, up, blur);
     let work = &mut WorkBuffers {
         working: work,
-        tables: Tables {
-            row,
-            col,
-            falling: fall,
-            rising: rise,
-        },
+        row,
+        col,
+        falling: fall,
+        rising: rise,
         response: resp,
         scratch,
     };
