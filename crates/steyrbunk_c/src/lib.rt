@@ -12,8 +12,7 @@ ghost use Rattle.scalar.specs.Log.{log_of, terms, high};
 ghost use Rattle.scalar.specs.Root.{root_of};
 ghost use Rattle.params.specs.Answers.{number_of};
 ghost use Rattle.response.specs.Map.{map_lent, mapped_of, map_buffers_of};
-ghost use Rattle.response.specs.Work.{SameWork};
-ghost use Rattle.radon.specs.Finder.{lent, lent_now};
+ghost use Rattle.radon.specs.Finder.{lent};
 ghost use Rattle.arch.specs.Arch.{arch_outcome, arch_buffers};
 ghost use Rattle.record.specs.Record.{version, stride, write_outcome, written, read_outcome, read_back};
 ghost use Rattle.steyrbunk_c.specs.Called.{settings_of, map_settings, reported, told, map_reported, map_told, verdict_numbers, camera_numbers};
@@ -72,25 +71,6 @@ fn verdict_numbers(v: Verdicts) -> [usize; 6]
     ]
 }
 
-// The finder by the settings, or their refusal.
-fn corners_by(
-    p: Result<RadonDetectorParams, Answer>,
-    img: &[u8],
-    w: usize,
-    h: usize,
-    work: &mut WorkBuffers,
-    out: &mut [f32],
-) -> Outcome
-    ensures answer { result ≡ called_outcome p img.now w h (lent_now work.old out.old) }
-    ensures same { SameWork work.old work.new }
-    ensures buffers { lent_now work.new out.new ≡ called_buffers p img.now w h (lent_now work.old out.old) }
-{
-    match p {
-        Ok(p) => radon_corners_u8(img, w, h, p, work, out),
-        Err(answer) => Outcome::refusal(answer),
-    }
-}
-
 // The finder: map and list of an image in one call.
 #[unsafe(no_mangle)]
 pub extern "C" fn steyrbunk_corners(
@@ -140,8 +120,10 @@ pub extern "C" fn steyrbunk_corners(
         response: resp,
         scratch,
     };
-    let p = settings_of(ray, up, blur, fit, threshold, nms, least);
-    let o = corners_by(p, img, w, h, work, out);
+    let o = match settings_of(ray, up, blur, fit, threshold, nms, least) {
+        Ok(p) => radon_corners_u8(img, w, h, p, work, out),
+        Err(answer) => Outcome::refusal(answer),
+    };
     *verdicts = verdict_numbers(o.verdicts);
     tell(o, count, ww, wh)
 }
