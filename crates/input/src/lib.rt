@@ -15,6 +15,7 @@ pub fn read_full<R: Read>(input: &mut R, room: &mut [u8]) -> io::Result<usize>
         (λ given. take n room.new ≡ take (length room.new) given)) }
 {
     let mut done: usize = 0;
+    // No `for`: each read says how far it came.
     while done < room.len() {
         let more = input.read(&mut room[done..])?;
         if more == 0 {

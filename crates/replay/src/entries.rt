@@ -105,6 +105,7 @@ pub fn compare<T: Entry>(s: &[u8], at: usize, buffer: &[T], n: usize) -> Compare
 {
     let mut next = at;
     let mut wrong: usize = 0;
+    // Indexed: an entry past the buffer's end is compared too, as none.
     for i in 0..n {
         let found = T::entry(buffer, i);
         wrong = plus(wrong, differ(found, T::listed(s, next)));
@@ -118,6 +119,7 @@ pub fn compare<T: Entry>(s: &[u8], at: usize, buffer: &[T], n: usize) -> Compare
 }
 
 // The answer 0 and the two sides.
+#[tactic(auto, unfolding(crate::specs::Entries::sides_of))]
 pub fn sides(s: &[u8], at: usize, answer: u64, w: u64, h: u64) -> Compared
     ensures { result ≡ sides_of s.now at answer w h }
 {

@@ -90,6 +90,7 @@ impl Walk {
         ensures { onward s.now result ≡ false }
     {
         let mut walk = Walk::start(s);
+        // No `for`: only a record says where the next one stands.
         while walk.more(s) {
             let (next, wrong) = visit(walk.next);
             walk = walk.after(next, wrong);

@@ -33,6 +33,7 @@ pub fn byte(s: &[u8], at: usize) -> u64
 }
 
 // The four bytes at a place as a number, the highest first.
+#[tactic(auto, unfolding(crate::specs::Vectors::word_at))]
 pub fn word(s: &[u8], at: usize) -> u64
     ensures value { result ≡ word_at s.now at }
     ensures most { result ≤ 4294967296 }
@@ -59,9 +60,11 @@ pub fn field(s: &[u8], at: usize, n: usize) -> u64
 }
 
 // The bytes from a place to another, and none where that is no part.
+#[tactic(auto, unfolding(crate::specs::Vectors::part_of, crate::specs::Vectors::part_start))]
 pub fn part(s: &[u8], from: usize, to: usize) -> &[u8]
     ensures { Part s.entry from to result }
 {
+    // Not by `get`: its contract has a part's values, and not where it lies.
     let n = s.len();
     if to > n {
         return &s[n..];
@@ -73,6 +76,7 @@ pub fn part(s: &[u8], from: usize, to: usize) -> &[u8]
 }
 
 // The place behind a part that stands after its length.
+#[tactic(auto, unfolding(crate::specs::Vectors::behind_of))]
 pub fn behind(s: &[u8], at: usize) -> usize
     ensures { result ≡ behind_of s.now at }
 {
