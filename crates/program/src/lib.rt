@@ -6,7 +6,6 @@ ghost use Rattle.lines.specs.Printed.{printed};
 ghost use Rattle.frame_runner.specs.FileAnswer.{file_outcome, file_buffers};
 ghost use Rattle.program.specs.Program.{limit, blank, lines_of};
 
-use cumsums::Tables;
 use frame_runner::run_frame_file;
 use params::Outcome;
 use response::WorkBuffers;
@@ -28,12 +27,10 @@ pub fn run_with_room(file: &[u8], list: &mut [f32]) -> Outcome
     let mut scratch = [0.0f32; 2304];
     let work = &mut WorkBuffers {
         working: &mut working,
-        tables: Tables {
-            row: &mut row,
-            col: &mut col,
-            falling: &mut falling,
-            rising: &mut rising,
-        },
+        row: &mut row,
+        col: &mut col,
+        falling: &mut falling,
+        rising: &mut rising,
         response: &mut response,
         scratch: &mut scratch,
     };

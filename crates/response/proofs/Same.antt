@@ -6,7 +6,10 @@ use Rattle.response.specs.Work.{SameWork}
 pub same_none : (b : WorkBuffers) → SameWork b b
 same_none b = record {
   working = refl;
-  tables = record { row = refl; col = refl; falling = refl; rising = refl };
+  row = refl;
+  col = refl;
+  falling = refl;
+  rising = refl;
   response = refl;
   scratch = refl;
 }
@@ -14,12 +17,10 @@ same_none b = record {
 pub same_more : {a b c : WorkBuffers} → SameWork a b → SameWork b c → SameWork a c
 same_more s t = record {
   working = t.working ∙ s.working;
-  tables = record {
-    row = t.tables.row ∙ s.tables.row;
-    col = t.tables.col ∙ s.tables.col;
-    falling = t.tables.falling ∙ s.tables.falling;
-    rising = t.tables.rising ∙ s.tables.rising;
-  };
+  row = t.row ∙ s.row;
+  col = t.col ∙ s.col;
+  falling = t.falling ∙ s.falling;
+  rising = t.rising ∙ s.rising;
   response = t.response ∙ s.response;
   scratch = t.scratch ∙ s.scratch;
 }

@@ -23,7 +23,10 @@ pub struct Mapped {
 #[derive(Drop)]
 pub struct WorkBuffers<'a> {
     pub working: &'a mut [u8],
-    pub tables: Tables<'a>,
+    pub row: &'a mut [u32],
+    pub col: &'a mut [u32],
+    pub falling: &'a mut [u32],
+    pub rising: &'a mut [u32],
     pub response: &'a mut [f32],
     pub scratch: &'a mut [f32],
 }
@@ -33,8 +36,10 @@ impl WorkBuffers<'_> {
     pub fn room(&self) -> usize
         ensures { result ≡ room_of (map_now self.now) }
     {
+        let diagonals = self.falling.len().min(self.rising.len());
+        let tables = self.row.len().min(self.col.len()).min(diagonals);
         let floats = self.response.len().min(self.scratch.len());
-        self.tables.room(self.working.len()).min(floats)
+        self.working.len().min(tables).min(floats)
     }
 }
 
@@ -67,7 +72,13 @@ pub fn radon_response_u8(
     // Borrowed once: it is written, and then read.
     let working = &mut *work.working;
     upsample(img, w, h, factor, working);
-    ray_response(working, size, &mut work.tables, work.response);
+    let tables = &mut Tables {
+        row: &mut *work.row,
+        col: &mut *work.col,
+        falling: &mut *work.falling,
+        rising: &mut *work.rising,
+    };
+    ray_response(working, size, tables, work.response);
     box_blur_inplace(work.response, work.scratch, ww, wh, radius);
     Mapped {
         answer: Answer::Complete,

@@ -12,15 +12,13 @@ ghost use Rattle.scalar.specs.Log.{log_of, terms, high};
 ghost use Rattle.scalar.specs.Root.{root_of};
 ghost use Rattle.params.specs.Answers.{number_of};
 ghost use Rattle.response.specs.Map.{map_lent, mapped_of, map_buffers_of};
-ghost use Rattle.response.specs.Work.{SameWork};
-ghost use Rattle.radon.specs.Finder.{lent, lent_now};
+ghost use Rattle.radon.specs.Finder.{lent};
 ghost use Rattle.arch.specs.Arch.{arch_outcome, arch_buffers};
 ghost use Rattle.record.specs.Record.{version, stride, write_outcome, written, read_outcome, read_back};
 ghost use Rattle.steyrbunk_c.specs.Called.{settings_of, map_settings, reported, told, map_reported, map_told, verdict_numbers, camera_numbers};
 ghost use Rattle.steyrbunk_c.specs.Called.{called_outcome, called_buffers, called_peaks, called_list};
 
 use arch::run_arch;
-use cumsums::Tables;
 use params::{Answer, Outcome, PeakFitMode, RadonDetectorParams, Verdicts};
 use radon::radon_corners_u8;
 use record::{read_record, write_record};
@@ -73,28 +71,9 @@ fn verdict_numbers(v: Verdicts) -> [usize; 6]
     ]
 }
 
-// The finder by the settings, or their refusal.
-fn corners_by(
-    p: Result<RadonDetectorParams, Answer>,
-    img: &[u8],
-    w: usize,
-    h: usize,
-    work: &mut WorkBuffers,
-    out: &mut [f32],
-) -> Outcome
-    ensures answer { result ≡ called_outcome p img.now w h (lent_now work.old out.old) }
-    ensures same { SameWork work.old work.new }
-    ensures buffers { lent_now work.new out.new ≡ called_buffers p img.now w h (lent_now work.old out.old) }
-{
-    match p {
-        Ok(p) => radon_corners_u8(img, w, h, p, work, out),
-        Err(answer) => Outcome::refusal(answer),
-    }
-}
-
 // The finder: map and list of an image in one call.
 #[unsafe(no_mangle)]
-pub extern "C" fn steyrbunk_corners<'a>(
+pub extern "C" fn steyrbunk_corners(
     img: &[u8],
     w: usize,
     h: usize,
@@ -105,13 +84,13 @@ pub extern "C" fn steyrbunk_corners<'a>(
     threshold: f32,
     nms: u32,
     least: u32,
-    work: &'a mut [u8],
-    row: &'a mut [u32],
-    col: &'a mut [u32],
-    fall: &'a mut [u32],
-    rise: &'a mut [u32],
-    resp: &'a mut [f32],
-    scratch: &'a mut [f32],
+    work: &mut [u8],
+    row: &mut [u32],
+    col: &mut [u32],
+    fall: &mut [u32],
+    rise: &mut [u32],
+    resp: &mut [f32],
+    scratch: &mut [f32],
     out: &mut [f32],
     count: &mut usize,
     ww: &mut usize,
@@ -134,17 +113,17 @@ pub extern "C" fn steyrbunk_corners<'a>(
 {
     let work = &mut WorkBuffers {
         working: work,
-        tables: Tables {
-            row,
-            col,
-            falling: fall,
-            rising: rise,
-        },
+        row,
+        col,
+        falling: fall,
+        rising: rise,
         response: resp,
         scratch,
     };
-    let p = settings_of(ray, up, blur, fit, threshold, nms, least);
-    let o = corners_by(p, img, w, h, work, out);
+    let o = match settings_of(ray, up, blur, fit, threshold, nms, least) {
+        Ok(p) => radon_corners_u8(img, w, h, p, work, out),
+        Err(answer) => Outcome::refusal(answer),
+    };
     *verdicts = verdict_numbers(o.verdicts);
     tell(o, count, ww, wh)
 }
@@ -181,16 +160,16 @@ fn tell_cameras(cameras: [Outcome; 8], told: &mut [usize])
 
 // All cameras of an arch: frame files end to end, and as many equal shares of the list as there are cameras.
 #[unsafe(no_mangle)]
-pub extern "C" fn steyrbunk_run_arch<'a>(
+pub extern "C" fn steyrbunk_run_arch(
     cameras: usize,
     frames: &[u8],
-    work: &'a mut [u8],
-    row: &'a mut [u32],
-    col: &'a mut [u32],
-    fall: &'a mut [u32],
-    rise: &'a mut [u32],
-    resp: &'a mut [f32],
-    scratch: &'a mut [f32],
+    work: &mut [u8],
+    row: &mut [u32],
+    col: &mut [u32],
+    fall: &mut [u32],
+    rise: &mut [u32],
+    resp: &mut [f32],
+    scratch: &mut [f32],
     out: &mut [f32],
     told: &mut [usize; 80],
 ) -> u32
@@ -208,12 +187,10 @@ pub extern "C" fn steyrbunk_run_arch<'a>(
 {
     let work = &mut WorkBuffers {
         working: work,
-        tables: Tables {
-            row,
-            col,
-            falling: fall,
-            rising: rise,
-        },
+        row,
+        col,
+        falling: fall,
+        rising: rise,
         response: resp,
         scratch,
     };
@@ -239,20 +216,20 @@ fn map_settings(ray: u32, up: u32, blur: u32) -> RadonDetectorParams
 
 // The map alone.
 #[unsafe(no_mangle)]
-pub extern "C" fn steyrbunk_response<'a>(
+pub extern "C" fn steyrbunk_response(
     img: &[u8],
     w: usize,
     h: usize,
     ray: u32,
     up: u32,
     blur: u32,
-    work: &'a mut [u8],
-    row: &'a mut [u32],
-    col: &'a mut [u32],
-    fall: &'a mut [u32],
-    rise: &'a mut [u32],
-    resp: &'a mut [f32],
-    scratch: &'a mut [f32],
+    work: &mut [u8],
+    row: &mut [u32],
+    col: &mut [u32],
+    fall: &mut [u32],
+    rise: &mut [u32],
+    resp: &mut [f32],
+    scratch: &mut [f32],
     ww: &mut usize,
     wh: &mut usize,
 ) -> u32
@@ -269,12 +246,10 @@ pub extern "C" fn steyrbunk_response<'a>(
     let p = map_settings(ray, up, blur);
     let work = &mut WorkBuffers {
         working: work,
-        tables: Tables {
-            row,
-            col,
-            falling: fall,
-            rising: rise,
-        },
+        row,
+        col,
+        falling: fall,
+        rising: rise,
         response: resp,
         scratch,
     };

@@ -1,5 +1,6 @@
 -- `response::radon_response_u8` meets its contract: refused, or the three passes one after the other. Assumes nothing.
-use Rattle.std.proofs.Common.{◌≡◌, refl, length}
+use Rattle.std.proofs.Common.{◌≡◌, refl, length, arith}
+use Rattle.std.proofs.lemmas.Grind.{common_steps}
 use mir.Facts.{Fits-le, Fits-lit}
 use Rattle.std.specs.Prelude.{Ok, Err}
 use Rattle.params.specs.Refusals.{as_result}
@@ -62,7 +63,9 @@ pub returns-clause-buffers : goal.returns-clause-buffers
 returns-clause-buffers c =
     let o = c.args in
     let j = passes (goal.at.returns-clause-buffers c).In_default in
-    (when_accepted o.img.now o.w o.h o.p (map_now o.work.now) j
+    let q = (when_accepted o.img.now o.w o.h o.p (map_now o.work.now) j
     c.image_upsample_clamped-factor.ensures c.ray_radius_clamped-ray.ensures refl
     (composed (runs (goal.at.returns-clause-buffers c).After-ray_radius_clamped-ray j) o.img.now refl c.upsample.ensures c.ray_response.ensures.filled
-    c.box_blur_inplace.ensures.resp_after c.box_blur_inplace.ensures.scratch_after)).1
+    c.box_blur_inplace.ensures.resp_after c.box_blur_inplace.ensures.scratch_after)).1 in
+    let e = c.ray_response.ensures.same in
+    grind (arith, common_steps, q, e.row, e.col, e.falling, e.rising)
