@@ -14,7 +14,7 @@ use Rattle.float.specs.Values.{f0, f1}
 use Rattle.grid.specs.Fold.{fsum}
 use Rattle.grid.proofs.Fold.{fold-none, fold_on}
 use Rattle.grid.specs.Fill.{filled}
-use Rattle.grid.proofs.Fill.{filled_zero, filled_ext, length-fill}
+use Rattle.grid.proofs.Fill.{filled_zero, filled_ext}
 use Rattle.grid.proofs.Part.{fill-part}
 use Rattle.grid.specs.Touch.{touched}
 use Rattle.grid.proofs.Touch.{touched-on, touched_join, Stage, stage_none, stage_more, stage_all}
@@ -137,28 +137,25 @@ whole w r j a e p q l m =
     let v : min (j + r + 1) w ≡ j + r + 1 = omega arith in
     rw v (omega arith)
 
-pub divided : (r w a e : ℕ) (xs : List Float) {d : ℕ} {ys zs us : List Float} → length xs ≡ w → a ≡ min r w → d ≡ w - r → e ≡ max d a
-    → ys ≡ touched nan 0 a (λ x v. div binary32 v (count_of (length xs) r x)) xs
+pub divided : (r w a e : ℕ) (xs : List Float) {d : ℕ} {ys zs us : List Float} → length xs ≡ w → a ≡ min r (length xs) → d ≡ length xs - r
+    → e ≡ max d a
+    → ys ≡ touched nan 0 a (λ x v. div binary32 v (count_of w r x)) xs
     → zs ≡ touched nan a e (λ _ v. div binary32 v (of_int binary32 (pos (2 * r + 1)))) ys
-    → us ≡ touched nan e w (λ x v. div binary32 v (count_of (length xs) r x)) zs
-    → us ≡ touched nan 0 w (λ x v. div binary32 v (count_of (length xs) r x)) xs
+    → us ≡ touched nan e (length xs) (λ x v. div binary32 v (count_of w r x)) zs
+    → us ≡ touched nan 0 w (λ x v. div binary32 v (count_of w r x)) xs
 divided r w a e xs {d} {ys} {zs} {us} l p o q A B C =
-    let m : a ≤ e = omega arith in
-    let t : e ≤ w = omega arith in
-    touched_join nan 0 e w _ _ xs (omega arith) t (λ j v _ _. refl)
-    (touched_join nan 0 a e _ _ xs (omega arith) m (λ j v u t. rw (l, whole w r j a e p (q ∙ ap (λ (i : ℕ). max i a) o) u t)) A B)
-    C
+    touched_join nan 0 e w _ _ xs (omega arith) (omega arith) (λ j v _ _. refl)
+    (touched_join nan 0 a e _ _ xs (omega arith) (omega arith) (λ j v u t. rw (whole w r j a e (omega arith) (omega arith) u t)) A B)
+    (rw l at C)
 
 -- a row's sums, each divided by its count
-pub row_means : (src : List Float) (r : ℕ) (xs : List Float) {ys zs : List Float} → length src ≡ length xs
-    → ys ≡ filled (length xs) (window_sum (λ k. get_or src k nan) (length xs) r) xs
-    → zs ≡ touched nan 0 (length ys) (λ x v. div binary32 v (count_of (length ys) r x)) ys
-    → zs ≡ filled (length src) (mean_at (λ k. get_or src k nan) (length src) r) xs
+pub row_means : (src : List Float) (r w : ℕ) (xs : List Float) {ys zs : List Float} → length xs ≡ w
+    → ys ≡ filled w (window_sum (λ k. get_or src k nan) w r) xs
+    → zs ≡ touched nan 0 w (λ x v. div binary32 v (count_of w r x)) ys
+    → zs ≡ filled w (mean_at (λ k. get_or src k nan) w r) xs
 unfolding mean_at
-row_means src r xs {ys} {zs} l p q =
-    let w = length src in
-    let n : length ys ≡ w = length-fill _ _ xs p ∙ sym l in
-    touched-on nan 0 w (λ x v. div binary32 v (count_of w r x)) ys w _ _ xs (rw (← l) at p) (rw n at q) (sym l)
+row_means src r w xs {ys} l p q =
+    touched-on nan 0 w (λ x v. div binary32 v (count_of w r x)) ys w _ _ xs p q l
     (λ j _ _ _. refl) (λ j _ b. absurd (omega arith)) (λ j b c. absurd (omega arith))
 
 -- ---- a row of columns' sums: the rows from a and below k are added

@@ -45,68 +45,10 @@ fn add_three(dst: &mut [f32], src: &[f32], b: usize)
     );
 }
 
-// How many of a row's w places the window about x has.
-fn window_count(w: usize, radius: usize, x: usize) -> f32
-    requires { (x < w) × (w ≤ 8192) × (radius ≤ 3) }
-    ensures { result ≡ count_of w radius x }
-{
-    ((x + radius + 1).min(w) - x.saturating_sub(radius)) as f32
-}
-
-// The sums of the windows along a row: turn k adds to each pixel the k-th place of its window, where the row has it.
-// For 8 pixels and radius 2, where the window of x is x - 2 to x + 2, the places that two of the five turns add, above the pixels that they add to:
-//
-//     k = 0   src   0 1 2 3 4 5 . .     dst[x] += src[x - 2]   b = 0
-//             dst   . . 2 3 4 5 6 7                            a = 2, e = 8
-//
-//     k = 3   src   . 1 2 3 4 5 6 7     dst[x] += src[x + 1]   b = 1
-//             dst   0 1 2 3 4 5 6 .                            a = 0, e = 7
-fn sum_row(src: &[f32], radius: usize, dst: &mut [f32])
-    requires { (radius ≤ 3) × (length src.now ≡ length dst.old) }
-    ensures { dst.new ≡ filled (length dst.old)
-        (window_sum (λ k. get_or src.now k nan) (length dst.old) radius)
-        dst.old }
-{
-    let w = dst.len();
-    dst.fill(0.0);
-    for k in 0..2 * radius + 1 {
-        let a = radius.saturating_sub(k).min(w);
-        let b = k.saturating_sub(radius).min(w);
-        change(dst, a, w - b, |x, v| v + src[b + (x - a)]);
-    }
-}
-
-// Each sum by its count: the edges one by one, and the pixels between, whose windows are whole, by one count.
-fn divide_row(dst: &mut [f32], radius: usize)
-    requires { (length dst.old ≤ 8192) × (radius ≤ 3) }
-    ensures { dst.new ≡ touched nan 0 (length dst.old)
-        (λ x v. ieee.div binary32 v (count_of (length dst.old) radius x))
-        dst.old }
-{
-    let w = dst.len();
-    let a = radius.min(w);
-    let e = w.saturating_sub(radius).max(a);
-    let whole = (2 * radius + 1) as f32;
-    change(dst, 0, a, |x, v| v / window_count(w, radius, x));
-    change(dst, a, e, |_, v| v / whole);
-    change(dst, e, w, |x, v| v / window_count(w, radius, x));
-}
-
-// The means along a row.
-fn mean_row(src: &[f32], radius: usize, dst: &mut [f32])
-    requires { (radius ≤ 3) × (length src.now ≤ 8192) × (length src.now ≡ length dst.old) }
-    ensures { dst.new ≡ filled (length src.now)
-        (mean_at (λ k. get_or src.now k nan) (length src.now) radius)
-        dst.old }
-{
-    sum_row(src, radius, dst);
-    divide_row(dst, radius);
-}
-
 // The sums down the columns of src, w entries a row, over the rows from a and below e.
 // Three rows at a time, as far as that goes: dst is read and stored less often.
 fn sum_columns(src: &[f32], w: usize, a: usize, e: usize, dst: &mut [f32])
-    requires { (a ≤ e) × (e ≤ 8192) × (length dst.old ≡ w) × (w * e ≤ length src.now) }
+    requires { (a ≤ e) × (length dst.old ≡ w) × (w * e ≤ length src.now) }
     ensures { dst.new ≡ filled w (rows_from src.now w a e) dst.old }
 {
     dst.fill(0.0);
@@ -120,17 +62,74 @@ fn sum_columns(src: &[f32], w: usize, a: usize, e: usize, dst: &mut [f32])
     }
 }
 
-// The means down the columns of src about row y.
-fn mean_column(src: &[f32], w: usize, h: usize, y: usize, radius: usize, dst: &mut [f32])
-    requires { (radius ≤ 3) × (y < h) × (h ≤ 8192) × (length dst.old ≡ w) × (w * h ≤ length src.now) }
-    ensures { dst.new ≡ filled w (λ x. column_mean (value_at src.now w) h radius x y) dst.old }
-{
-    let a = y.saturating_sub(radius);
-    let e = (y + radius + 1).min(h);
-    let n = (e - a) as f32;
-    let f = 1.0 / n;
-    sum_columns(src, w, a, e, dst);
-    change(dst, 0, w, |_, v| v * f);
+// The windows about so many places in a line: the pixels of a row, or of a column.
+#[derive(Clone, Copy)]
+struct Windows {
+    places: usize,
+    radius: usize,
+    ghost short: { places ≤ 8192 },
+    ghost narrow: { radius ≤ 3 },
+}
+
+impl Windows {
+    // How many of the places the window about x has.
+    fn count(self, x: usize) -> f32
+        requires { x < self.places }
+        ensures { result ≡ count_of self.places self.radius x }
+    {
+        ((x + self.radius + 1).min(self.places) - x.saturating_sub(self.radius)) as f32
+    }
+
+    // The sums of the windows along a row: turn k adds to each pixel the k-th place of its window, where the row has it.
+    // For 8 pixels and radius 2, where the window of x is x - 2 to x + 2, the places that two of the five turns add, above the pixels that they add to:
+    //
+    //     k = 0   src   0 1 2 3 4 5 . .     dst[x] += src[x - 2]   b = 0
+    //             dst   . . 2 3 4 5 6 7                            a = 2, e = 8
+    //
+    //     k = 3   src   . 1 2 3 4 5 6 7     dst[x] += src[x + 1]   b = 1
+    //             dst   0 1 2 3 4 5 6 .                            a = 0, e = 7
+    fn sum_row(self, src: &[f32], dst: &mut [f32])
+        requires { (length src.now ≡ self.places) × (length dst.old ≡ self.places) }
+        ensures { dst.new ≡ filled self.places (window_sum (λ k. get_or src.now k nan) self.places self.radius) dst.old }
+    {
+        let w = dst.len();
+        let radius = self.radius;
+        dst.fill(0.0);
+        for k in 0..2 * radius + 1 {
+            let a = radius.saturating_sub(k).min(w);
+            let b = k.saturating_sub(radius).min(w);
+            change(dst, a, w - b, |x, v| v + src[b + (x - a)]);
+        }
+    }
+
+    // Each sum by its count: the edges one by one, and the pixels between, whose windows are whole, by one count.
+    fn divide_row(self, dst: &mut [f32])
+        requires { length dst.old ≡ self.places }
+        ensures { dst.new ≡ touched nan 0 self.places
+            (λ x v. ieee.div binary32 v (count_of self.places self.radius x))
+            dst.old }
+    {
+        let w = dst.len();
+        let a = self.radius.min(w);
+        let e = w.saturating_sub(self.radius).max(a);
+        let whole = (2 * self.radius + 1) as f32;
+        change(dst, 0, a, |x, v| v / self.count(x));
+        change(dst, a, e, |_, v| v / whole);
+        change(dst, e, w, |x, v| v / self.count(x));
+    }
+
+    // The means down the columns of src, w entries a row, about row y.
+    fn mean_column(self, src: &[f32], w: usize, y: usize, dst: &mut [f32])
+        requires { (y < self.places) × (length dst.old ≡ w) × (w * self.places ≤ length src.now) }
+        ensures { dst.new ≡ filled w (λ x. column_mean (value_at src.now w) self.places self.radius x y) dst.old }
+    {
+        let a = y.saturating_sub(self.radius);
+        let e = (y + self.radius + 1).min(self.places);
+        let n = (e - a) as f32;
+        let f = 1.0 / n;
+        sum_columns(src, w, a, e, dst);
+        change(dst, 0, w, |_, v| v * f);
+    }
 }
 
 // Whether a window is narrow enough, and a map has sides and room as any working image.
@@ -156,7 +155,10 @@ pub fn row_means(src: &[f32], radius: usize, dst: &mut [f32])
 {
     let n = src.len();
     if map_fits(n, 1, radius, dst.len()) {
-        mean_row(src, radius, &mut dst[..n]);
+        let windows = Windows { places: n, radius };
+        let row = &mut dst[..n];
+        windows.sum_row(src, row);
+        windows.divide_row(row);
     }
 }
 
@@ -167,6 +169,6 @@ pub fn column_means(src: &[f32], w: usize, h: usize, y: usize, radius: usize, ds
         dst.old }
 {
     if column_fits(w, h, y, radius, src.len(), dst.len()) {
-        mean_column(src, w, h, y, radius, &mut dst[..w]);
+        Windows { places: h, radius }.mean_column(src, w, y, &mut dst[..w]);
     }
 }

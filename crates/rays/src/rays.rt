@@ -96,27 +96,6 @@ impl Cumsums<'_> {
         squared_spread(s_h, s_v, s_d1, s_d2)
     }
 
-    // Whether a pixel is at least r from every edge.
-    fn inside(self, x: usize, y: usize) -> bool
-        requires { (x < self.size.w) × (y < self.size.h) }
-        ensures { result ≡ within self.entry.size.w self.entry.size.h self.entry.size.r x y }
-    {
-        let Size { w, h, r } = self.size;
-        r <= x && x + r < w && r <= y && y + r < h
-    }
-
-    // The response at any pixel: 0 nearer than r to an edge.
-    fn response_or_zero(self, x: usize, y: usize) -> f32
-        requires { (x < self.size.w) × (y < self.size.h) }
-        ensures { result ≡ read_at self.entry x y }
-    {
-        if self.inside(x, y) {
-            self.radon_response_at(x, y)
-        } else {
-            0.0
-        }
-    }
-
     // The response where all eight entries are in the image: no branch, which `radon_response_at` has for an entry past the edge.
     fn deep_response(self, x: usize, y: usize) -> f32
         requires { Deep self.size.w self.size.h self.size.r x y }
@@ -134,38 +113,6 @@ impl Cumsums<'_> {
         squared_spread(s_h, s_v, s_d1, s_d2)
     }
 
-    // Where a row's run without a test begins, and as many columns from the end stops: at the end where there is none,
-    // which is near the top or the bottom and in a narrow image.
-    fn inner_from(self, y: usize) -> usize
-        requires { y < self.size.h }
-        ensures { (result ≤ self.entry.size.w) × AllDeep self.entry.size y result (self.entry.size.w - result) }
-    {
-        let Size { w, h, r } = self.size;
-        if r < y && y + r < h && 2 * r + 2 <= w {
-            r + 1
-        } else {
-            w
-        }
-    }
-
-    // Row y.
-    fn compute_response_row(self, y: usize, out: &mut [f32])
-        requires { (y < self.size.h) × (length out.old ≡ self.size.w) }
-        ensures { out.new ≡ filled self.entry.size.w (λ x. read_at self.entry x y) out.old }
-    {
-        let w = self.size.w;
-        let first = self.inner_from(y);
-        let last = first.max(w - first);
-        let edge = move |x: usize| self.response_or_zero(x, y);
-        fill_run(0, &mut out[0..first], edge);
-        fill_run(
-            first,
-            &mut out[first..last],
-            move |x: usize| self.deep_response(x, y),
-        );
-        fill_run(last, &mut out[last..w], edge);
-    }
-
     // The response of the image that the tables are of.
     // Indexed: after a loop over `chunks_mut` nothing is known of what was written.
     pub fn compute_response(self, out: &mut [f32])
@@ -176,7 +123,73 @@ impl Cumsums<'_> {
         let w = self.size.w;
         for y in 0..self.size.h {
             let a = y * w;
-            self.compute_response_row(y, &mut out[a..a + w]);
+            Row { sums: self, y }.compute_response_row(&mut out[a..a + w]);
         }
+    }
+}
+
+// A row of the image that the tables are of.
+#[derive(Clone, Copy)]
+struct Row<'a> {
+    sums: Cumsums<'a>,
+    y: usize,
+    ghost low: { y < sums.size.h },
+}
+
+impl Row<'_> {
+    ghost use Rattle.rays.specs.Read.{read_at};
+
+    // Whether a pixel is at least r from every edge.
+    fn inside(self, x: usize) -> bool
+        requires { x < self.sums.size.w }
+        ensures { result ≡ within self.entry.sums.size.w self.entry.sums.size.h self.entry.sums.size.r x self.entry.y }
+    {
+        let Size { w, h, r } = self.sums.size;
+        let y = self.y;
+        r <= x && x + r < w && r <= y && y + r < h
+    }
+
+    // The response at any pixel: 0 nearer than r to an edge.
+    fn response_or_zero(self, x: usize) -> f32
+        requires { x < self.sums.size.w }
+        ensures { result ≡ read_at self.entry.sums x self.entry.y }
+    {
+        if self.inside(x) {
+            self.sums.radon_response_at(x, self.y)
+        } else {
+            0.0
+        }
+    }
+
+    // Where the row's run without a test begins, and as many columns from the end stops: at the end where there is none,
+    // which is near the top or the bottom and in a narrow image.
+    fn inner_from(self) -> usize
+        ensures { (result ≤ self.entry.sums.size.w)
+            × AllDeep self.entry.sums.size self.entry.y result (self.entry.sums.size.w - result) }
+    {
+        let Size { w, h, r } = self.sums.size;
+        if r < self.y && self.y + r < h && 2 * r + 2 <= w {
+            r + 1
+        } else {
+            w
+        }
+    }
+
+    // The pixels near an edge are tested one by one, and those between need no test.
+    fn compute_response_row(self, out: &mut [f32])
+        requires { length out.old ≡ self.sums.size.w }
+        ensures { out.new ≡ filled self.entry.sums.size.w (λ x. read_at self.entry.sums x self.entry.y) out.old }
+    {
+        let w = self.sums.size.w;
+        let first = self.inner_from();
+        let last = first.max(w - first);
+        let edge = move |x: usize| self.response_or_zero(x);
+        fill_run(0, &mut out[0..first], edge);
+        fill_run(
+            first,
+            &mut out[first..last],
+            move |x: usize| self.sums.deep_response(x, self.y),
+        );
+        fill_run(last, &mut out[last..w], edge);
     }
 }

@@ -25,6 +25,11 @@ slice_bounds-mean_column-end c = omega (arith, fitted c)
 pub slice_bounds-mean_column-end-then-column_fits : goal.slice_bounds-mean_column-end-then-column_fits
 slice_bounds-mean_column-end-then-column_fits c = simp length-take (omega (arith, fitted (goal.at.slice_bounds-mean_column-end-then-column_fits c).Then-column_fits))
 
+pub invariant_of-mean_column : goal.invariant_of-mean_column
+invariant_of-mean_column c =
+    let f = fitted (goal.at.invariant_of-mean_column c).Then-column_fits in
+    record { short = f.high; narrow = f.few }
+
 pub mean_column-requires : goal.mean_column-requires
 mean_column-requires c = simp length-take (omega (arith, fitted (goal.at.mean_column-requires c).Then-column_fits))
 

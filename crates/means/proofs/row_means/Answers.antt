@@ -1,12 +1,12 @@
 -- `means::row_means` meets its contract: the means where they fit, and nothing where they do not. Assumes nothing.
-use mathlib.Core.Path.{◌≡◌, sym, ◌∙◌}
-use Prim.Native.Nat.{◌≤◌}
-use native.Mathlib.Omega.{arith}
-use lib.ListN.{length, length-take}
+use Rattle.std.proofs.Common.{◌≡◌, ◌≤◌, length, refl, arith}
+use mathlib.Core.Path.{sym, ◌∙◌}
+use lib.ListN.{take, length-take}
 use mathlib.Core.Bool.{true}
+use Rattle.grid.proofs.Fill.{length-fill}
 use Rattle.means.specs.Means.{row_fits}
 use Rattle.means.proofs.Fits.{row-fitting}
-use Rattle.means.proofs.Steps.{first_part}
+use Rattle.means.proofs.Steps.{first_part, row_means}
 use Rattle.means.proofs.row_means.Goals.{Then-map_fits}
 use Rattle.means.proofs.row_means.Goals as goal
 
@@ -20,14 +20,30 @@ fitted : (c : Then-map_fits) →
     (p.radius ≤ 3) × (length p.src.now ≤ 8192) × (length p.src.now ≤ length p.dst.now)
 fitted c = row-fitting _ _ _ (passed c)
 
-pub slice_bounds-mean_row-end : goal.slice_bounds-mean_row-end
-slice_bounds-mean_row-end c = omega (arith, fitted c)
+-- the part of dst that is written
+part : (c : Then-map_fits) →
+    let p = c.args in
+    length (take (length p.src.now) p.dst.now) ≡ length p.src.now
+part c = simp length-take (omega (arith, fitted c))
 
-pub slice_bounds-mean_row-end-then-map_fits : goal.slice_bounds-mean_row-end-then-map_fits
-slice_bounds-mean_row-end-then-map_fits c = simp length-take (omega (arith, fitted (goal.at.slice_bounds-mean_row-end-then-map_fits c).Then-map_fits))
+pub slice_bounds-row-end : goal.slice_bounds-row-end
+slice_bounds-row-end c = (fitted c).2
 
-pub mean_row-requires : goal.mean_row-requires
-mean_row-requires c = simp length-take (omega (arith, fitted (goal.at.mean_row-requires c).Then-map_fits))
+pub slice_bounds-row-end-then-map_fits : goal.slice_bounds-row-end-then-map_fits
+slice_bounds-row-end-then-map_fits c = sym (part (goal.at.slice_bounds-row-end-then-map_fits c).Then-map_fits)
+
+pub invariant_of-windows : goal.invariant_of-windows
+invariant_of-windows c =
+    let f = fitted (goal.at.invariant_of-windows c).Then-map_fits in
+    record { short = f.1; narrow = f.0 }
+
+pub sum_row-requires : goal.sum_row-requires
+sum_row-requires c = (refl, part (goal.at.sum_row-requires c).Then-map_fits)
+
+pub divide_row-requires : goal.divide_row-requires
+divide_row-requires c = length-fill _ _ _ c.sum_row.ensures ∙ part (goal.at.divide_row-requires c).Then-map_fits
 
 pub returns-then-map_fits : goal.returns-then-map_fits
-returns-then-map_fits c = rw (passed (goal.at.returns-then-map_fits c).Then-map_fits) (first_part _ _ _ c.mean_row.ensures)
+returns-then-map_fits c =
+    let t = (goal.at.returns-then-map_fits c).Then-map_fits in
+    rw (passed t) (first_part _ _ _ (row_means c.args.src.now c.args.radius _ _ (part t) c.sum_row.ensures c.divide_row.ensures))

@@ -8,7 +8,7 @@ use Rattle.means.proofs.Steps.{zeroed, column_none, column_three, column_more, c
 use Rattle.means.proofs.sum_columns.Goals as goal
 
 pub loop-t-init : goal.loop-t-init
-loop-t-init c = rw add-zero (column_none c.args.src.now c.args.w _ c.args.dst.now c.requires.2 (zeroed _ (c.fill.ensures.after (search rules))))
+loop-t-init c = rw add-zero (column_none c.args.src.now c.args.w _ c.args.dst.now c.requires.1 (zeroed _ (c.fill.ensures.after (search rules))))
 
 -- the last of three rows that a turn adds is within the map
 pub add_three-requires : goal.add_three-requires
@@ -39,5 +39,5 @@ loop-k-preserved c =
 pub returns : goal.returns
 returns c =
     let p = c.args in
-    column_all p.src.now p.w p.a p.e p.dst.now c.requires.2 (zeroed _ (c.fill.ensures.after (search rules)))
+    column_all p.src.now p.w p.a p.e p.dst.now c.requires.1 (zeroed _ (c.fill.ensures.after (search rules)))
     (stage_join nan _ _ c.loop-t.invariant c.loop-k.invariant) (omega arith)
