@@ -2,6 +2,7 @@
 #![tactic(auto)]
 
 use replay::Walk;
+use std::convert::AsSlice;
 use std::io;
 use vectors::{after_line, part};
 
@@ -21,21 +22,23 @@ pub fn head(rt: &impl Print, s: &[u8], w: Walk) -> io::Result<()> {
     Ok(())
 }
 
-// A line with a name and a number.
-pub fn say(rt: &impl Print, name: &str, n: usize) -> io::Result<()> {
-    println!(rt; "{name}: {n}")
+// A line with a name, text or bytes, and a number.
+pub fn say(rt: &impl Print, name: impl AsSlice<u8> + Drop, n: usize) -> io::Result<()> {
+    rt.write_all(name.as_slice())?;
+    println!(rt; ": {n}")
 }
 
 // A line for each count from one place on and before another: a name, the place and the count.
 pub fn each(
     rt: &impl Print,
-    name: &str,
+    name: impl AsSlice<u8> + Drop,
     counts: &[usize],
     from: usize,
     to: usize,
 ) -> io::Result<()> {
     for (i, n) in counts.iter().enumerate().take(to).skip(from) {
-        println!(rt; "{name}{i}: {n}")?;
+        rt.write_all(name.as_slice())?;
+        println!(rt; "{i}: {n}")?;
     }
     Ok(())
 }
