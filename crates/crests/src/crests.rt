@@ -102,59 +102,72 @@ pub struct Stretch {
     pub above: usize,
 }
 
-// How far eights without a crest go, from `from` on and up to `to`. Mostly none of the eight is above the floor: no neighbour need be read, and
-// there is none to count.
-fn pass_flat_eights(s: &[f32], from: usize, to: usize, floor: f32) -> Stretch
-    requires { (1 ≤ from) × (from ≤ to) × (to < length s.now) }
-    ensures { Went floor s.now from to result.end result.above }
-{
-    let eights = (to - from) / 8;
-    let mut above: usize = 0;
-    for k in 0..eights {
-        let i = from + 8 * k;
-        if eight_above(s, i, floor) {
-            if eight_crests(s, i, floor) {
-                return Stretch { end: i, above };
-            }
-            above += above_in(&s[i..i + 8], floor) as usize;
-        }
-    }
-    Stretch {
-        end: from + 8 * eights,
-        above,
-    }
+// A run of places of a row, from `from` on and before `to`, each with a neighbour to each side; and the floor.
+#[derive(Clone, Copy)]
+struct Run<'a> {
+    s: &'a [f32],
+    from: usize,
+    to: usize,
+    floor: f32,
+    ghost inner: { (1 ≤ from) × (from ≤ to) × (to < length s.now) },
 }
 
-// The first crest from `from` on and before `to`; `to` where there is none.
-fn next_crest(s: &[f32], from: usize, to: usize, floor: f32) -> Stretch
-    requires { (1 ≤ from) × (from ≤ to) × (to < length s.now) }
-    ensures { Next (crest floor s.now) from to result.end × (result.above ≡ above_from floor s.now from result.end) }
-{
-    let eights = pass_flat_eights(s, from, to, floor);
-    let mut above = eights.above;
-    for k in eights.end..to {
-        if s[k] > floor {
-            if is_crest(s, k, floor) {
-                return Stretch { end: k, above };
+impl Run<'_> {
+    // How far eights without a crest go. Mostly none of the eight is above the floor: no neighbour need be read, and there is none to count.
+    fn pass_flat_eights(&self) -> Stretch
+        ensures { Went self.now.floor self.now.s.now self.now.from self.now.to result.end result.above }
+    {
+        let (s, floor) = (self.s, self.floor);
+        let eights = (self.to - self.from) / 8;
+        let mut above: usize = 0;
+        for k in 0..eights {
+            let i = self.from + 8 * k;
+            if eight_above(s, i, floor) {
+                if eight_crests(s, i, floor) {
+                    return Stretch { end: i, above };
+                }
+                above += above_in(&s[i..i + 8], floor) as usize;
             }
-            above += 1;
+        }
+        Stretch {
+            end: self.from + 8 * eights,
+            above,
         }
     }
-    Stretch { end: to, above }
-}
 
-// The same for what is worth a verdict: where the window of radius r is a single pixel, no neighbour is asked.
-fn search(s: &[f32], from: usize, to: usize, floor: f32, r: usize) -> Stretch
-    requires { (1 ≤ from) × (from ≤ to) × (to < length s.now) }
-    ensures { Next (worth r floor s.now) from to result.end × (result.above ≡ above_from floor s.now from result.end) }
-{
-    if 0 < r {
-        return next_crest(s, from, to, floor);
+    // The first crest; `to` where there is none.
+    fn next_crest(&self) -> Stretch
+        ensures { Next (crest self.now.floor self.now.s.now) self.now.from self.now.to result.end × (result.above ≡ above_from self.now.floor self.now.s.now self.now.from result.end) }
+    {
+        let (s, floor) = (self.s, self.floor);
+        let eights = self.pass_flat_eights();
+        let mut above = eights.above;
+        for k in eights.end..self.to {
+            if s[k] > floor {
+                if is_crest(s, k, floor) {
+                    return Stretch { end: k, above };
+                }
+                above += 1;
+            }
+        }
+        Stretch {
+            end: self.to,
+            above,
+        }
     }
-    let first = first_above(&s[from..to], floor);
-    Stretch {
-        end: from + first,
-        above: 0,
+
+    // The same for what is worth a verdict: where the window of radius r is a single pixel, no neighbour is asked.
+    fn search(&self, r: usize) -> Stretch
+        ensures { Next (worth r self.now.floor self.now.s.now) self.now.from self.now.to result.end × (result.above ≡ above_from self.now.floor self.now.s.now self.now.from result.end) }
+    {
+        if 0 < r {
+            return self.next_crest();
+        }
+        let first = first_above(&self.s[self.from..self.to], self.floor);
+        Stretch {
+            end: self.from + first,
+            above: 0,
+        }
     }
 }
 
@@ -170,7 +183,8 @@ pub fn next_candidate(s: &[f32], from: usize, to: usize, floor: f32, r: usize) -
     ensures { Sought r floor s.now from to result.end result.above }
 {
     if search_fits(from, to, s.len()) {
-        return search(s, from, to, floor, r);
+        let run = Run { s, from, to, floor };
+        return run.search(r);
     }
     Stretch { end: to, above: 0 }
 }
