@@ -1,5 +1,5 @@
 // Crests: the places of a row that are worth a verdict. Most values are at or under the floor, and are passed over eight at a time.
-ghost use Rattle.std.specs.Prelude.{◌≡◌, Bool, ℕ, ◌+◌, ◌^◌, ◌≤◌, ◌<◌, length};
+ghost use Rattle.std.specs.Prelude.{◌≡◌, Bool, ℕ, ◌+◌, ◌^◌, ◌≤◌, ◌<◌, length, unwrap_or, IfSome};
 ghost use Rattle.grid.specs.Each.{count};
 ghost use Rattle.grid.specs.Rect.{range};
 ghost use Rattle.crests.specs.Crests.{over, longest, above_count, above_from, crest, worth, four, eight, Passed, Went, Next};
@@ -65,17 +65,12 @@ fn pass_eights(s: &[f32], floor: f32) -> usize
     8 * eights
 }
 
-// The first place whose value is above the floor; the slice's length where there is none.
-pub fn first_above(s: &[f32], floor: f32) -> usize
-    ensures { Next (over floor s.now) 0 (length s.now) result }
+// The first place whose value is above the floor.
+pub fn first_above(s: &[f32], floor: f32) -> Option<usize>
+    ensures next { Next (over floor s.now) 0 (length s.now) (unwrap_or result (length s.now)) }
+    ensures within { IfSome result (λ i. i < length s.now) }
 {
-    let n = s.len();
-    for i in pass_eights(s, floor)..n {
-        if s[i] > floor {
-            return i;
-        }
-    }
-    n
+    (pass_eights(s, floor)..s.len()).find(|i| s[*i] > floor)
 }
 
 // Whether the value at k is above the floor, and neither neighbour in the row is greater. No branch stands between the three.
@@ -163,7 +158,8 @@ impl Run<'_> {
         if 0 < r {
             return self.next_crest();
         }
-        let first = first_above(&self.s[self.from..self.to], self.floor);
+        let part = &self.s[self.from..self.to];
+        let first = first_above(part, self.floor).unwrap_or(part.len());
         Stretch {
             end: self.from + first,
             above: 0,

@@ -5,5 +5,6 @@ use Rattle.crests.proofs.crests.Run.search.Goals as goal
 
 pub returns : goal.returns
 returns c =
-    worth-above c.args.r c.args.self.now.floor c.args.self.now.s.now c.args.self.now.from c.args.self.now.to c.if-r-gt0.false
-    (omega arith) (omega arith) c.first_above-first.ensures
+    let o = c.args.self.now in
+    worth-above c.args.r o.floor o.s.now o.from o.to c.if-r-gt0.false
+    (omega arith) (omega arith) (rw c.unwrap_or-first.ensures c.first_above.ensures.next)
