@@ -1,5 +1,5 @@
 -- `verdict::neighbors::Window::is_local_max` meets its contract: none of the window's rows has a greater value. Assumes nothing.
-use Rattle.std.proofs.Common.{◌≡◌, true, false, ℕ, ◌+◌, ◌-◌, ◌≤◌, ◌<◌, arith, refl, rules}
+use Rattle.std.proofs.Common.{◌+◌, ◌-◌, refl, rules}
 use borrow.Author.Tests.{tests}
 use Rattle.std.proofs.lemmas.Iterator.{cases_from_all, YieldsList-from_range}
 use Rattle.verdict.proofs.Windows.{beaten-near, unbeaten, row_free, row_beats, RowFree, RowBeats}

@@ -1,5 +1,5 @@
 -- `verdict::neighbors::Window::positives` meets its contract: the counts of the window's rows, together. Assumes nothing.
-use Rattle.std.proofs.Common.{◌≡◌, ◌+◌, ◌-◌, arith, refl, rules}
+use Rattle.std.proofs.Common.{◌+◌, ◌-◌, arith, refl, rules}
 use Rattle.std.proofs.lemmas.Iterator.{YieldsList-from_range, YieldsList-from_map}
 use Rattle.std.proofs.lemmas.Iterator.Consumers.{YieldsList-at, sum_by_from_yields_List, fits_by_from_yields_list}
 use Rattle.std.specs.List.{range_with_len}
