@@ -32,7 +32,7 @@ module _ (p : ℕ → Bool) where
   none_here : (a : ℕ) → None p a a
   none_here a k h l = absurd (omega arith)
 
-  none-on : (a m e : ℕ) → None p a m → None p m e → None p a e
+  pub none-on : (a m e : ℕ) → None p a m → None p m e → None p a e
   none-on a m e u v k h l = go (dec_le m k)
     where
       go : Dec (m ≤ k) → p k ≡ false

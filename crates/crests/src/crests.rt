@@ -1,5 +1,5 @@
 // Crests: the places of a row that are worth a verdict. Most values are at or under the floor, and are passed over eight at a time.
-ghost use Rattle.std.specs.Prelude.{◌≡◌, Bool, ℕ, ◌+◌, ◌^◌, ◌≤◌, ◌<◌, length};
+ghost use Rattle.std.specs.Prelude.{◌≡◌, Bool, ℕ, ◌+◌, ◌^◌, ◌≤◌, ◌<◌, length, unwrap_or, IfSome};
 ghost use Rattle.grid.specs.Each.{count};
 ghost use Rattle.grid.specs.Rect.{range};
 ghost use Rattle.crests.specs.Crests.{over, longest, above_count, above_from, crest, worth, four, eight, Passed, Went, Next};
@@ -65,17 +65,12 @@ fn pass_eights(s: &[f32], floor: f32) -> usize
     8 * eights
 }
 
-// The first place whose value is above the floor; the slice's length where there is none.
-pub fn first_above(s: &[f32], floor: f32) -> usize
-    ensures { Next (over floor s.now) 0 (length s.now) result }
+// The first place whose value is above the floor.
+pub fn first_above(s: &[f32], floor: f32) -> Option<usize>
+    ensures next { Next (over floor s.now) 0 (length s.now) (unwrap_or result (length s.now)) }
+    ensures within { IfSome result (λ i. i < length s.now) }
 {
-    let n = s.len();
-    for i in pass_eights(s, floor)..n {
-        if s[i] > floor {
-            return i;
-        }
-    }
-    n
+    (pass_eights(s, floor)..s.len()).find(|i| s[*i] > floor)
 }
 
 // Whether the value at k is above the floor, and neither neighbour in the row is greater. No branch stands between the three.
@@ -102,59 +97,73 @@ pub struct Stretch {
     pub above: usize,
 }
 
-// How far eights without a crest go, from `from` on and up to `to`. Mostly none of the eight is above the floor: no neighbour need be read, and
-// there is none to count.
-fn pass_flat_eights(s: &[f32], from: usize, to: usize, floor: f32) -> Stretch
-    requires { (1 ≤ from) × (from ≤ to) × (to < length s.now) }
-    ensures { Went floor s.now from to result.end result.above }
-{
-    let eights = (to - from) / 8;
-    let mut above: usize = 0;
-    for k in 0..eights {
-        let i = from + 8 * k;
-        if eight_above(s, i, floor) {
-            if eight_crests(s, i, floor) {
-                return Stretch { end: i, above };
-            }
-            above += above_in(&s[i..i + 8], floor) as usize;
-        }
-    }
-    Stretch {
-        end: from + 8 * eights,
-        above,
-    }
+// A run of places of a row, from `from` on and before `to`, each with a neighbour to each side; and the floor.
+#[derive(Clone, Copy)]
+struct Run<'a> {
+    s: &'a [f32],
+    from: usize,
+    to: usize,
+    floor: f32,
+    ghost inner: { (1 ≤ from) × (from ≤ to) × (to < length s.now) },
 }
 
-// The first crest from `from` on and before `to`; `to` where there is none.
-fn next_crest(s: &[f32], from: usize, to: usize, floor: f32) -> Stretch
-    requires { (1 ≤ from) × (from ≤ to) × (to < length s.now) }
-    ensures { Next (crest floor s.now) from to result.end × (result.above ≡ above_from floor s.now from result.end) }
-{
-    let eights = pass_flat_eights(s, from, to, floor);
-    let mut above = eights.above;
-    for k in eights.end..to {
-        if s[k] > floor {
-            if is_crest(s, k, floor) {
-                return Stretch { end: k, above };
+impl Run<'_> {
+    // How far eights without a crest go. Mostly none of the eight is above the floor: no neighbour need be read, and there is none to count.
+    fn pass_flat_eights(&self) -> Stretch
+        ensures { Went self.now.floor self.now.s.now self.now.from self.now.to result.end result.above }
+    {
+        let (s, floor) = (self.s, self.floor);
+        let eights = (self.to - self.from) / 8;
+        let mut above: usize = 0;
+        for k in 0..eights {
+            let i = self.from + 8 * k;
+            if eight_above(s, i, floor) {
+                if eight_crests(s, i, floor) {
+                    return Stretch { end: i, above };
+                }
+                above += above_in(&s[i..i + 8], floor) as usize;
             }
-            above += 1;
+        }
+        Stretch {
+            end: self.from + 8 * eights,
+            above,
         }
     }
-    Stretch { end: to, above }
-}
 
-// The same for what is worth a verdict: where the window of radius r is a single pixel, no neighbour is asked.
-fn search(s: &[f32], from: usize, to: usize, floor: f32, r: usize) -> Stretch
-    requires { (1 ≤ from) × (from ≤ to) × (to < length s.now) }
-    ensures { Next (worth r floor s.now) from to result.end × (result.above ≡ above_from floor s.now from result.end) }
-{
-    if 0 < r {
-        return next_crest(s, from, to, floor);
+    // The first crest; `to` where there is none.
+    fn next_crest(&self) -> Stretch
+        ensures { Next (crest self.now.floor self.now.s.now) self.now.from self.now.to result.end × (result.above ≡ above_from self.now.floor self.now.s.now self.now.from result.end) }
+    {
+        let (s, floor) = (self.s, self.floor);
+        let eights = self.pass_flat_eights();
+        let mut above = eights.above;
+        for k in eights.end..self.to {
+            if s[k] > floor {
+                if is_crest(s, k, floor) {
+                    return Stretch { end: k, above };
+                }
+                above += 1;
+            }
+        }
+        Stretch {
+            end: self.to,
+            above,
+        }
     }
-    let first = first_above(&s[from..to], floor);
-    Stretch {
-        end: from + first,
-        above: 0,
+
+    // The same for what is worth a verdict: where the window of radius r is a single pixel, no neighbour is asked.
+    fn search(&self, r: usize) -> Stretch
+        ensures { Next (worth r self.now.floor self.now.s.now) self.now.from self.now.to result.end × (result.above ≡ above_from self.now.floor self.now.s.now self.now.from result.end) }
+    {
+        if 0 < r {
+            return self.next_crest();
+        }
+        let part = &self.s[self.from..self.to];
+        let first = first_above(part, self.floor).unwrap_or(part.len());
+        Stretch {
+            end: self.from + first,
+            above: 0,
+        }
     }
 }
 
@@ -170,7 +179,8 @@ pub fn next_candidate(s: &[f32], from: usize, to: usize, floor: f32, r: usize) -
     ensures { Sought r floor s.now from to result.end result.above }
 {
     if search_fits(from, to, s.len()) {
-        return search(s, from, to, floor, r);
+        let run = Run { s, from, to, floor };
+        return run.search(r);
     }
     Stretch { end: to, above: 0 }
 }

@@ -45,12 +45,11 @@ fn store(list: &mut [f32], n: usize, x: Input, y: Input, strength: f32)
     ensures { list.new ≡ sets list.old (stride * n) (x.0 ∷ y.0 ∷ strength ∷ []) }
 {
     let i = 3 * n;
-    list[i] = x.0;
-    list[i + 1] = y.0;
-    list[i + 2] = strength;
+    list[i..i + 3].copy_from_slice(&[x.0, y.0, strength]);
 }
 
 // One more candidate with the verdict v.
+// The bound stands in each contract and is no struct's invariant: a count that has reached it is still added to, and `find_in_row` bounds by row.
 fn count(tally: &mut Verdicts, v: Verdict)
     requires { Tally tally.old (8192 * 8192) }
     ensures { tally.new ≡ plus tally.old v 1 }

@@ -21,7 +21,7 @@ fn digit(d: usize) -> u8
 
 impl Line {
     // A line with nothing on it.
-    pub fn empty() -> Self
+    pub(crate) fn empty() -> Self
         ensures { result ≡ blank }
     {
         Self {
@@ -86,7 +86,7 @@ impl Line {
     }
 
     // A refusal's only line.
-    pub fn refused(n: u32) -> Self
+    pub(crate) fn refused(n: u32) -> Self
         ensures { Shows (refused_line n) result }
     {
         let mut line = Self::empty();
@@ -97,14 +97,14 @@ impl Line {
 
     // The first line of a list.
     #[tactic(auto, unfolding(crate::specs::Printed::first_line))]
-    pub fn first(w: usize, h: usize, count: usize) -> Self
+    pub(crate) fn first(w: usize, h: usize, count: usize) -> Self
         ensures { Shows (first_line w h count) result }
     {
         Self::three(10, 1, w, h, count)
     }
 
     // A corner's line.
-    pub fn corner(x: f32, y: f32, strength: f32) -> Self
+    pub(crate) fn corner(x: f32, y: f32, strength: f32) -> Self
         ensures { Shows (corner_line (x ∷ y ∷ strength ∷ [])) result }
     {
         Self::three(
@@ -117,7 +117,7 @@ impl Line {
     }
 
     // The last line of a list that is full.
-    pub fn full() -> Self
+    pub(crate) fn full() -> Self
         ensures { Shows full_line result }
     {
         let mut line = Self::empty();

@@ -1,21 +1,25 @@
 -- The parts of rows that the code takes are the window's rows, and the centre is not counted: the steps behind `neighbors`. Assumes nothing.
 use mathlib.Core.Path.{◌≡◌, refl, sym, ap, ◌∙◌}
 use mathlib.Core.Logic.{◌⊎◌, inl, inr}
-use mathlib.Core.Bool.{Bool, true, false, ◌||◌, ◌&&◌, not, and-false, and-true}
+use mathlib.Core.Bool.{Bool, true, false, true≢false, ◌||◌, ◌&&◌, not, and-false, and-true}
 use borrow.Author.Tests.{eq-eqb, ne_eqb}
-use Prim.Native.Nat.{ℕ, ◌+◌, ◌-◌, ◌*◌, ◌≤◌, ◌<◌}
+use Prim.Native.Nat.{ℕ, zero, suc, ◌+◌, ◌-◌, ◌*◌, ◌≤◌, ◌<◌}
 use native.Mathlib.Omega.{arith}
 use mathlib.Core.List.{List, [], ◌∷◌, ◌++◌}
 use lib.ListN.{get_or, length, drop, length-take, length-drop}
 use lib.Seq.{get_or-take, get_or-drop}
 use lib.Dec.{eqb}
 use lib.Ieee.{Float, nan, lt}
+use Rattle.std.specs.Prelude.{Option, None, Some, unwrap_or, is_none, IfSome}
+use Rattle.std.specs.Bool.{MatchBool}
+use Rattle.std.specs.List.{range_with_len, fold, sum_by, AllWithin, HoldsAt}
+use Rattle.std.proofs.lemmas.List.FromFn.{length-range_with_len, get_or-range_with_len}
 use Rattle.float.specs.Values.{f0}
 use Rattle.grid.proofs.Plane.{row_in, next_row, row-above}
 use Rattle.grid.specs.Each.{any, count}
-use Rattle.grid.proofs.Each.{any_none, any_append, count-append, count_most, count_none, count_yes, count_no}
-use Rattle.grid.specs.Rect.{Place, place, rect, line}
-use Rattle.grid.proofs.Rect.{before, rect-at, any_in, any_line_none, length-line}
+use Rattle.grid.proofs.Each.{any-each, count-append, count_most, count_none, count_yes, count_no}
+use Rattle.grid.specs.Rect.{Place, place, range, rect, line}
+use Rattle.grid.proofs.Rect.{before, rect-at, any_in, any_line_none, any_range_none, length-line}
 use Rattle.grid.proofs.Rect.{Down, down-none, down-row, down_all, keep_line_ext, keep_rect_ext}
 use Rattle.grid.specs.Ways.{value}
 use Rattle.crests.specs.Maximum.{entry}
@@ -97,18 +101,20 @@ module _ (s : List Float) {w x r yy : ℕ} (m : RowRoom w x r yy (length s)) {pa
       rw is (get_or-take (r + r + 1) (drop a s) k nan b ∙ get_or-drop a s k nan ∙ ap (λ (i : ℕ). get_or s i nan) e)
 
   -- no value of the part is greater
-  part_free : (v : Float) {i : ℕ} → Next (over v part) 0 (length part) i → r + r + 1 ≤ i
+  part_free : (v : Float) (o : Option ℕ) → Next (over v part) 0 (length part) (unwrap_or o (length part)) → is_none o ≡ true
       → any (λ q. lt v (at (value s w) q)) (line (x - r) (x + r + 1) yy) ≡ false
-  part_free v {i} t b =
+  part_free v None t b =
       any_line_none _ (x - r) (x + r + 1) yy
-      (λ k l. ap (lt v) (sym (part-value k (omega arith))) ∙ t.none k (omega arith) (omega arith))
+      (λ k l. ap (lt v) (sym (part-value k (omega arith))) ∙ t.none k (omega arith) (omega (arith, part_length)))
+  part_free v (Some i) t b = absurd (true≢false (sym b))
 
   -- one is
-  part_beats : (v : Float) (y : ℕ) {i : ℕ} → y - r ≤ yy → yy < y + r + 1 → Next (over v part) 0 (length part) i → i < r + r + 1
-      → Beats (value s w) v r x y
-  part_beats v y {i} l h t b =
-      any_in _ (x - r) (x + r + 1) (y - r) (y + r + 1) (x - r + i) yy (omega arith) (omega arith) l h
-      (ap (lt v) (sym (part-value i b)) ∙ t.found (omega (arith, part_length)))
+  part_beats : (v : Float) (y : ℕ) (o : Option ℕ) → y - r ≤ yy → yy < y + r + 1 → Next (over v part) 0 (length part) (unwrap_or o (length part))
+      → IfSome o (λ i. i < length part) → is_none o ≡ false → Beats (value s w) v r x y
+  part_beats v y None l h t f b = absurd (true≢false b)
+  part_beats v y (Some i) l h t f b =
+      any_in _ (x - r) (x + r + 1) (y - r) (y + r + 1) (x - r + i) yy (omega arith) (omega (arith, f, part_length)) l h
+      (ap (lt v) (sym (part-value i (omega (arith, f, part_length)))) ∙ t.found f)
 
   part_count : {n : ℕ} → w ≤ 8192 → n ≡ above_count f0 part → n ≡ count (λ q. lt f0 (at (value s w) q)) (line (x - r) (x + r + 1) yy)
   part_count wide u =
@@ -129,34 +135,56 @@ Counted f n l = n ≡ count (λ q. lt f0 (at f q)) l
 abbrev Rows : (List Place → Type 0) → ℕ → ℕ → ℕ → ℕ → Type 0
 Rows S r x y yy = Down S (x - r) (x + r + 1) (y - r) (y + r + 1) yy
 
--- no value of them is greater than v, the centre's
-abbrev pub FreeTo : List Float → ℕ → ℕ → ℕ → ℕ → Float → ℕ → Type 0
-FreeTo s w x y r v yy = Rows (Free (value s w) v) r x y yy
+-- row yy of the window has none, or one
+abbrev pub RowFree : List Float → ℕ → ℕ → ℕ → ℕ → Float → ℕ → Type 0
+RowFree s w x y r v yy = yy < y + r + 1 → Free (value s w) v (line (x - r) (x + r + 1) yy)
+
+unfoldable pub RowBeats : List Float → ℕ → ℕ → ℕ → ℕ → Float → ℕ → Type 0
+RowBeats s w x y r v yy = y - r ≤ yy → yy < y + r + 1 → Beats (value s w) v r x y
 
 -- n values of them are above zero: few enough for the machine
 pub record CountTo (s : List Float) (w x y r n yy : ℕ) : Type 0 where
   pub rows : Rows (Counted (value s w) n) r x y yy
   pub few : n ≤ 8192 * yy
 
-module _ (s : List Float) {w h r x y : ℕ} (m : Room w h r x y (length s)) where
-  pub free_none : (v : Float) → FreeTo s w x y r v (y - r)
-  free_none v = down-none _ _ _ _ _ (omega arith) (any_none _)
+-- what is said of entry k of the rows from a on
+at_place : (P : ℕ → Type 0) (a n k : ℕ) → k < n → P (get_or (range_with_len a n) k 0) → P (a + k)
+at_place P a n k b h = rw (get_or-range_with_len a n k 0 b) at h
 
+module _ (s : List Float) {w h r x y : ℕ} (m : Room w h r x y (length s)) where
   module _ {v : Float} (centre : v ≡ value s w x y) where
     pub beaten-near : {b : Bool} → 0 < r → b ≡ nearest (value s w) v x y → b ≡ true → false ≡ not (beaten (value s w) r (place x y))
     beaten-near l e t = beaten-is (value s w) r x y centre (nearest_beats (value s w) v m l (sym e ∙ t))
 
-    module _ {yy : ℕ} (t : FreeTo s w x y r v yy) where
-      pub beaten-row : {part : List Float} {i : ℕ} → yy < y + r + 1 → part ≡ row_part s w x r yy → Next (over v part) 0 (length part) i
-          → i < r + r + 1 → false ≡ not (beaten (value s w) r (place x y))
-      beaten-row b e k l = beaten-is (value s w) r x y centre (part_beats s (room_row m b) e v y t.least b k l)
+    -- what is said of all rows, or of one
+    pub unbeaten : {b : Bool} → let n = y + r + 1 - (y - r) in let all = range_with_len (y - r) n in
+        MatchBool b (AllWithin (RowFree s w x y r v) all 0 (length all)) ((k : ℕ) × (k < length all) × HoldsAt (RowBeats s w x y r v) all k)
+        → b ≡ not (beaten (value s w) r (place x y))
+    unfolding rect RowBeats
+    unbeaten {b = true} h =
+        let a = y - r in
+        let n = y + r + 1 - a in
+        beaten-is (value s w) r x y centre
+        (any-each _ (λ yy. line (x - r) (x + r + 1) yy) (range a (y + r + 1))
+        ∙ any_range_none _ a (y + r + 1)
+        (λ yy b e.
+        let o : a + (yy - a) ≡ yy = omega arith in
+        rw o at (at_place (RowFree s w x y r v) a n (yy - a) (omega arith) (h (yy - a) 0 (omega arith) (omega (arith, length-range_with_len a n)))) e))
+    unbeaten {b = false} h =
+        let a = y - r in
+        let n = y + r + 1 - a in
+        let l : h.0 < n = omega (arith, h.1, length-range_with_len a n) in
+        beaten-is (value s w) r x y centre (at_place (RowBeats s w x y r v) a n h.0 l (h.2 0) (omega arith) (omega arith))
 
-      pub unbeaten : y + r + 1 ≤ yy → true ≡ not (beaten (value s w) r (place x y))
-      unbeaten b = beaten-is (value s w) r x y centre (down_all _ _ _ _ _ t b)
+  pub row_free : (v : Float) (yy : ℕ) {part : List Float} (o : Option ℕ) {b : Bool} → part ≡ row_part s w x r yy
+      → Next (over v part) 0 (length part) (unwrap_or o (length part)) → b ≡ is_none o → b ≡ true → RowFree s w x y r v yy
+  row_free v yy o e k i t b = part_free s (room_row m b) e v o k (sym i ∙ t)
 
-  pub free_more : (v : Float) {yy : ℕ} {part : List Float} {i : ℕ} → FreeTo s w x y r v yy → yy < y + r + 1 → part ≡ row_part s w x r yy
-      → Next (over v part) 0 (length part) i → r + r + 1 ≤ i → FreeTo s w x y r v (yy + 1)
-  free_more v t b e k l = down-row _ _ _ _ _ _ t b (λ u. rw (any_append, u) (part_free s (room_row m b) e v k l))
+  pub row_beats : (v : Float) (yy : ℕ) {part : List Float} (o : Option ℕ) {b : Bool} → part ≡ row_part s w x r yy
+      → Next (over v part) 0 (length part) (unwrap_or o (length part)) → IfSome o (λ i. i < length part) → b ≡ is_none o → b ≡ false
+      → RowBeats s w x y r v yy
+  unfolding RowBeats
+  row_beats v yy o e k f i t l b = part_beats s (room_row m b) e v y o l b k f (sym i ∙ t)
 
   pub count_none_yet : CountTo s w x y r 0 (y - r)
   count_none_yet = record { rows = down-none _ _ _ _ _ (omega arith) (count_none _); few = omega arith }
@@ -176,6 +204,23 @@ module _ (s : List Float) {w h r x y : ℕ} (m : Room w h r x y (length s)) wher
     pub count-rows : y + r + 1 ≤ yy → n ≡ positives_there (value s w) r (place x y)
     unfolding positives_there
     count-rows b = down_all _ _ _ _ _ t.rows b
+
+  -- the counts of the rows, together
+  abbrev pub row_count : ℕ → ℕ
+  row_count yy = above_count f0 (row_part s w x r yy)
+
+  rows_on : (k : ℕ) {n yy : ℕ} → yy + k ≡ y + r + 1 → CountTo s w x y r n yy
+      → CountTo s w x y r (fold (λ c i. c + row_count i) n (range_with_len yy k)) (y + r + 1)
+  rows_on zero {yy = yy} e t =
+      let o : yy ≡ y + r + 1 = omega arith in
+      rw o at t
+  rows_on (suc k) e t = rows_on k (omega arith) (count-row t (omega arith) refl refl)
+
+  pub all_rows : CountTo s w x y r (sum_by row_count (range_with_len (y - r) (y + r + 1 - (y - r)))) (y + r + 1)
+  all_rows = rows_on (y + r + 1 - (y - r)) (omega arith) count_none_yet
+
+  pub counted_all : {n : ℕ} → n ≡ sum_by row_count (range_with_len (y - r) (y + r + 1 - (y - r))) → n ≡ positives_there (value s w) r (place x y)
+  counted_all e = e ∙ count-rows all_rows (omega arith)
 
 -- ---- the centre, which is not counted
 

@@ -53,24 +53,16 @@ impl<'a> Window<'a> {
         if 0 < self.r && self.near_beats() {
             return false;
         }
-        let n = self.r + self.r + 1;
-        for yy in self.y - self.r..self.y + self.r + 1 {
-            if first_above(self.row(yy), self.v) < n {
-                return false;
-            }
-        }
-        true
+        (self.y - self.r..self.y + self.r + 1).all(|yy| first_above(self.row(yy), self.v).is_none())
     }
 
     // How many values in the window are above zero, the centre counted too.
     fn positives(&self) -> u32
         ensures { result ≡ positives_there (value self.now.resp.now self.now.w) self.now.r (place self.now.x self.now.y) }
     {
-        let mut count: u32 = 0;
-        for yy in self.y - self.r..self.y + self.r + 1 {
-            count += count_above(self.row(yy), 0.0);
-        }
-        count
+        (self.y - self.r..self.y + self.r + 1)
+            .map(|yy| count_above(self.row(yy), 0.0))
+            .sum()
     }
 
     // How many values in the window are above zero, the centre not counted.

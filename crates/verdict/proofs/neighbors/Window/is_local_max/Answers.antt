@@ -1,5 +1,8 @@
--- `verdict::neighbors::Window::is_local_max` meets its contract. The invariant: none of the rows passed has a greater value. Assumes nothing.
-use Rattle.verdict.proofs.Windows.{free_none, free_more, beaten-near, beaten-row, unbeaten}
+-- `verdict::neighbors::Window::is_local_max` meets its contract: none of the window's rows has a greater value. Assumes nothing.
+use Rattle.std.proofs.Common.{◌+◌, ◌-◌, refl, rules}
+use borrow.Author.Tests.{tests}
+use Rattle.std.proofs.lemmas.Iterator.{cases_from_all, YieldsList-from_range}
+use Rattle.verdict.proofs.Windows.{beaten-near, unbeaten, row_free, row_beats, RowFree, RowBeats}
 use Rattle.verdict.proofs.neighbors.Window.is_local_max.Goals as goal
 
 pub returns-then-near_beats : goal.returns-then-near_beats
@@ -7,22 +10,10 @@ returns-then-near_beats c =
     let o = c.args.self.now in
     beaten-near o.resp.now o.lies_in o.centre c.if-self-gt0.true c.near_beats.ensures c.if-near_beats.true
 
-pub loop-yy-init : goal.loop-yy-init
-loop-yy-init c =
-    let o = c.args.self.now in
-    free_none o.resp.now o.lies_in o.v
-
-pub returns-then-first_above-n : goal.returns-then-first_above-n
-returns-then-first_above-n c =
-    let o = c.args.self.now in
-    beaten-row o.resp.now o.lies_in o.centre c.loop-yy.invariant c.loop-yy-test.true c.row.ensures c.first_above.ensures c.if-first_above-n.true
-
-pub loop-yy-preserved : goal.loop-yy-preserved
-loop-yy-preserved c =
-    let o = c.args.self.now in
-    free_more o.resp.now o.lies_in o.v c.loop-yy.invariant c.loop-yy-test.true c.row.ensures c.first_above.ensures c.if-first_above-n.false
-
 pub returns : goal.returns
 returns c =
     let o = c.args.self.now in
-    unbeaten o.resp.now o.lies_in o.centre c.loop-yy.invariant c.loop-yy-test.false
+    unbeaten o.resp.now o.lies_in o.centre
+    (cases_from_all _ _ c.all.result (RowFree o.resp.now o.w o.x o.y o.r o.v) (RowBeats o.resp.now o.w o.x o.y o.r o.v)
+    c.all.ensures.ran (YieldsList-from_range (o.y - o.r) (o.y + o.r + 1) _ refl refl)
+    (λ yy q k. search (rules, tests, row_free o.resp.now o.lies_in o.v)) (λ yy q k. search (rules, tests, row_beats o.resp.now o.lies_in o.v)))

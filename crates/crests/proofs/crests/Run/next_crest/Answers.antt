@@ -1,8 +1,8 @@
--- `crests::crests::next_crest` meets its contract. The invariant is `Went`: there is no crest before k, and what is above is counted.
+-- `crests::crests::Run::next_crest` meets its contract. The invariant is `Went`: there is no crest before k, and what is above is counted.
 use native.Mathlib.Omega.{arith}
 use Rattle.crests.proofs.Passing.{went_above, went_under, went_few}
-use Rattle.crests.proofs.crests.next_crest.Goals as goal
-use Rattle.crests.proofs.crests.next_crest.Goals.{then-s-k+else-is_crest, else-s-k}
+use Rattle.crests.proofs.crests.Run.next_crest.Goals as goal
+use Rattle.crests.proofs.crests.Run.next_crest.Goals.{then-s-k+else-is_crest, else-s-k}
 
 pub overflow_add-above : goal.overflow_add-above
 overflow_add-above c = omega (arith, went_few _ _ _ _ c.loop-k.invariant)
