@@ -114,11 +114,12 @@ module _ (m : Machine) (img : List ℕ) (w h : ℕ) (p : RadonDetectorParams) (s
 
   -- W and H too
   pub map_sizes_are_the_rusts : (b : MapBuffers) → number_of (map-answered img w h p b) ≡ 0
-      → ((mapped_of img w h p b).w ≡ (radon_response_u8 m img w h p rust).working_w)
-      × ((mapped_of img w h p b).h ≡ (radon_response_u8 m img w h p rust).working_h)
+      → mapped_of img w h p b
+      ≡ Ok (record { w = (radon_response_u8 m img w h p rust).working_w; h = (radon_response_u8 m img w h p rust).working_h })
   unfolding mapped_of
   map_sizes_are_the_rusts b z =
-      rw (eq-eqb (number_of (map-answered img w h p b)) 0 z) (sym (map_is_the_rusts b z).width, sym (map_is_the_rusts b z).height)
+      rw (eq-eqb (number_of (map-answered img w h p b)) 0 z)
+      (λ i. Ok (record { w = sym (map_is_the_rusts b z).width i; h = sym (map_is_the_rusts b z).height i }))
 
   -- ---- the finder
 
