@@ -31,7 +31,7 @@ use Rattle.params.specs.Settings.{existing_sites, factor_of, ray_of}
 use Rattle.params.specs.Answers.{number_of}
 use Rattle.params.proofs.Accepted.{map_accepted, all_accepted}
 use Rattle.scalar.specs.Log.{log_of, terms, high, lowest, highest, difference, units_of, cut_third}
-use Rattle.std.specs.Prelude.{Some}
+use Rattle.std.specs.Prelude.{Some, Ok}
 use Rattle.scalar.proofs.Facts.{log_inside}
 use Rattle.response.proofs.Runs.{Runs, runs_of}
 use Rattle.response.specs.Map.{Buffers as MapBuffers, answered as map-answered, map_buffers_of, mapped_of, mapped_by, work_of, map_of, side_of, room_of}
