@@ -4,6 +4,7 @@
 
 use params::{Outcome, Verdicts};
 use replay::{Compared, Entry, Walk};
+use response::WorkBuffers;
 use std::io;
 use vectors::{capped, differ, field, plus, skip, word};
 
@@ -83,18 +84,16 @@ fn record(s: &[u8], at: usize, found: &mut Found) -> Compared {
     let mut rising = [OLD_WORD; 2304];
     let mut response = [old_float(); 2304];
     let mut scratch = [old_float(); 2304];
-    let outcome = arch::run_arch(
-        many,
-        frames,
-        &mut working,
-        &mut row,
-        &mut col,
-        &mut falling,
-        &mut rising,
-        &mut response,
-        &mut scratch,
-        &mut list[0..room],
-    );
+    let work = &mut WorkBuffers {
+        working: &mut working,
+        row: &mut row,
+        col: &mut col,
+        falling: &mut falling,
+        rising: &mut rising,
+        response: &mut response,
+        scratch: &mut scratch,
+    };
+    let outcome = arch::run_arch(many, frames, work, &mut list[0..room]);
     let reached = field(s, due, 8);
     let beyond = kept(&working, reached)
         .then(kept(&row, reached))

@@ -2,7 +2,7 @@
 #![tactic(auto)]
 
 use replay::{Compared, Walk, compare};
-use response::Mapped;
+use response::{Mapped, WorkBuffers, radon_response_u8};
 use std::io;
 
 // No frame file of the list is longer.
@@ -43,53 +43,41 @@ fn mapped(file: &[u8], s: &[u8], at: usize) -> Compared {
     let mut rising = [0u32; 2304];
     let mut response = [0.0f32; 2304];
     let mut scratch = [0.0f32; 2304];
-    let map = response::radon_response_u8(
+    let mut work = WorkBuffers {
+        working: &mut working,
+        row: &mut row,
+        col: &mut col,
+        falling: &mut falling,
+        rising: &mut rising,
+        response: &mut response,
+        scratch: &mut scratch,
+    };
+    let map = radon_response_u8(
         frame::pixels(file),
         header.width,
         header.height,
         header.params,
-        &mut working,
-        &mut row,
-        &mut col,
-        &mut falling,
-        &mut rising,
-        &mut response,
-        &mut scratch,
+        &mut work,
     );
-    let written = Written {
-        working: &working,
-        tables: [&row, &col, &falling, &rising],
-        response: &response,
-        scratch: &scratch,
-    };
-    against(map, written, s, at)
-}
-
-// What a map wrote, in the list's order.
-#[derive(Clone, Copy)]
-struct Written<'a> {
-    working: &'a [u8],
-    tables: [&'a [u32]; 4],
-    response: &'a [f32],
-    scratch: &'a [f32],
+    against(map, &work, s, at)
 }
 
 // The map against the list, from a place on, in the list's order and with the list's sides. A word says whether there is a scratch.
-fn against(map: Mapped, written: Written, s: &[u8], at: usize) -> Compared {
+fn against(map: Mapped, work: &WorkBuffers, s: &[u8], at: usize) -> Compared {
     let answer = map.answer;
     let n = area(
         vectors::word(s, at) as usize,
         vectors::word(s, vectors::skip(s, at, 4)) as usize,
     );
     let c = replay::sides(s, at, answer.number() as u64, map.w as u64, map.h as u64);
-    let mut c = c.then(compare(s, c.next, written.working, n));
-    for table in written.tables {
+    let mut c = c.then(compare(s, c.next, &*work.working, n));
+    for table in [&*work.row, &*work.col, &*work.falling, &*work.rising] {
         c = c.then(compare(s, c.next, table, n));
     }
-    let c = c.then(compare(s, c.next, written.response, n));
+    let c = c.then(compare(s, c.next, &*work.response, n));
     let blurred = vectors::word(s, c.next);
     let next = vectors::skip(s, c.next, 4);
-    c.then(compare(s, next, written.scratch, where_one(blurred, n)))
+    c.then(compare(s, next, &*work.scratch, where_one(blurred, n)))
 }
 
 // A file of the list is not refused.
