@@ -15,6 +15,7 @@ use params::{Answer, Outcome};
 use response::WorkBuffers;
 
 // What a call for an arch reports: its own answer, 0 or 21, and what each camera is told.
+// No `Result`: with 21 the cameras are told too, 21 and zeros each (specs/Arch, `arch_outcome`).
 #[derive(Clone, Copy)]
 pub struct ArchOutcome {
     pub answer: Answer,

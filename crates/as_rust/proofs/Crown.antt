@@ -31,7 +31,7 @@ use Rattle.params.specs.Settings.{existing_sites, factor_of, ray_of}
 use Rattle.params.specs.Answers.{number_of}
 use Rattle.params.proofs.Accepted.{map_accepted, all_accepted}
 use Rattle.scalar.specs.Log.{log_of, terms, high, lowest, highest, difference, units_of, cut_third}
-use Rattle.std.specs.Prelude.{Some}
+use Rattle.std.specs.Prelude.{Some, Ok}
 use Rattle.scalar.proofs.Facts.{log_inside}
 use Rattle.response.proofs.Runs.{Runs, runs_of}
 use Rattle.response.specs.Map.{Buffers as MapBuffers, answered as map-answered, map_buffers_of, mapped_of, mapped_by, work_of, map_of, side_of, room_of}
@@ -114,11 +114,12 @@ module _ (m : Machine) (img : List ℕ) (w h : ℕ) (p : RadonDetectorParams) (s
 
   -- W and H too
   pub map_sizes_are_the_rusts : (b : MapBuffers) → number_of (map-answered img w h p b) ≡ 0
-      → ((mapped_of img w h p b).w ≡ (radon_response_u8 m img w h p rust).working_w)
-      × ((mapped_of img w h p b).h ≡ (radon_response_u8 m img w h p rust).working_h)
+      → mapped_of img w h p b
+      ≡ Ok (record { w = (radon_response_u8 m img w h p rust).working_w; h = (radon_response_u8 m img w h p rust).working_h })
   unfolding mapped_of
   map_sizes_are_the_rusts b z =
-      rw (eq-eqb (number_of (map-answered img w h p b)) 0 z) (sym (map_is_the_rusts b z).width, sym (map_is_the_rusts b z).height)
+      rw (eq-eqb (number_of (map-answered img w h p b)) 0 z)
+      (λ i. Ok (record { w = sym (map_is_the_rusts b z).width i; h = sym (map_is_the_rusts b z).height i }))
 
   -- ---- the finder
 

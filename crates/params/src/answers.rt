@@ -88,6 +88,7 @@ impl Verdicts {
 }
 
 // What a call reports: its answer, how many corners it found, the working image's sides, and what became of the candidates.
+// No `Result`: two of the answers accept, and with a refusal the other fields are reported too, as zeros (specs/Answers, `refused`).
 #[derive(Clone, Copy)]
 pub struct Outcome {
     pub answer: Answer,

@@ -1,6 +1,7 @@
 -- The two cases of the finder's promise: a call that is refused, and one whose map and list follow. Assumes nothing.
-use Rattle.std.specs.Prelude.{Ok, Err}
+use Rattle.std.specs.Prelude.{Result, Ok, Err, eqb}
 use mathlib.Core.Path.{◌≡◌, refl, ap, ◌∙◌}
+use mathlib.Core.Bool.{true}
 use mathlib.Core.List.{List}
 use Prim.Native.Nat.{ℕ, ◌*◌, ◌≤◌, ◌<◌, min}
 use native.Mathlib.Nat.{le-min}
@@ -20,7 +21,7 @@ use Rattle.params.specs.Answers.{number_of, refused}
 use Rattle.params.specs.Refusals.{or_else, size_refusal, map_refusal, list_refusal, room_refusal, pixels_of, refusal_of, map_refusal_of, as_result}
 use Rattle.params.proofs.Judged.{ok_zero, err_is}
 use Rattle.params.proofs.Accepted.{both_pass, sizes_pass}
-use Rattle.response.specs.declared.Mapped.{Mapped}
+use Rattle.response.specs.declared.Sides.{Sides}
 use Rattle.response.specs.Map.{Buffers as MapBuffers, room_of, side_of, work_of, map_of, mapped, mapped_by, mapped_of, map_buffers_of}
 use Rattle.response.proofs.Runs.{Runs, runs_of, side-most}
 use Rattle.grid.specs.Ways.{value}
@@ -147,18 +148,32 @@ module _ (img : List ℕ) (w h : ℕ) (p : RadonDetectorParams) (b : Buffers) wh
     runs : Runs (factor_of p.image_upsample) (ray_of p.ray_radius) p.response_blur_radius w h (length img) b.map
     runs = runs_by w h p (length img) b.map zero_answered
 
-    -- what the map's entry reported and left
-    map_accepted_by : {m : Mapped} {after : MapBuffers} → m ≡ mapped_of img w h p b.map → after ≡ map_buffers_of img w h p b.map
+    -- the map's table passes too
+    map-accepts : eqb (number_of (map_refusal_of w h (length img) p (room_of b.map))) 0 ≡ true
+    map-accepts =
+        eq-eqb (number_of (map_refusal_of w h (length img) p (room_of b.map))) 0
+        (map_zero w h (length img) p (room_of b.map) zero_answered)
+
+    -- so the map's entry does not refuse
+    pub map-not-refused : {a : Answer} → Err a ≡ mapped_of img w h p b.map → ⊥
+    unfolding mapped_of
+    map-not-refused u = err-not-ok (rw map-accepts at u)
+      where
+        err-not-ok : {a : Answer} {s : Sides} → ◌≡◌ {A = Result Sides Answer} (Err a) (Ok s) → ⊥
+        err-not-ok e = cc
+
+    -- what it reported and left
+    map_accepted_by : {m : Sides} {after : MapBuffers} → Ok m ≡ mapped_of img w h p b.map → after ≡ map_buffers_of img w h p b.map
         → (m.w ≡ side_of w p) × (m.h ≡ side_of h p) × (after ≡ mapped (pixel img w) w h p b.map)
     unfolding mapped_of map_buffers_of
     map_accepted_by u v =
-        let t =
-        eq-eqb (number_of (map_refusal_of w h (length img) p (room_of b.map))) 0
-        (map_zero w h (length img) p (room_of b.map) zero_answered) in
-        let m-is = rw t at u in
-        (ap (λ (m : Mapped). m.w) m-is, ap (λ (m : Mapped). m.h) m-is, rw t at v)
+        let m-is = ok-inj (rw map-accepts at u) in
+        (ap (λ (m : Sides). m.w) m-is, ap (λ (m : Sides). m.h) m-is, rw map-accepts at v)
+      where
+        ok-inj : {m s : Sides} → ◌≡◌ {A = Result Sides Answer} (Ok m) (Ok s) → m ≡ s
+        ok-inj e = cc
 
-    pub when_accepted : {m : Mapped} {after : MapBuffers} {o : Outcome} {list : List Float} → m ≡ mapped_of img w h p b.map
+    pub when_accepted : {m : Sides} {after : MapBuffers} {o : Outcome} {list : List Float} → Ok m ≡ mapped_of img w h p b.map
         → after ≡ map_buffers_of img w h p b.map
         → o ≡ peaks_outcome p m.w m.h after.response after.working (length b.list)
         → list ≡ list_of p m.w m.h after.response after.working b.list

@@ -26,7 +26,10 @@ pub fn radon_corners_u8(
     if let Err(answer) = params::judge_finder_call(w, h, img.len(), p, work.room()) {
         return Outcome::refusal(answer);
     }
-    let map = radon_response_u8(img, w, h, p, work);
+    let map = match radon_response_u8(img, w, h, p, work) {
+        Ok(map) => map,
+        Err(answer) => return Outcome::refusal(answer),
+    };
     let response = &mut *work.response;
     let working = &mut *work.working;
     detect::detect_peaks_from_radon(response, working, map.w, map.h, p, list)

@@ -1,8 +1,9 @@
 // Replays frames through the map's entry and compares working image, tables, response and scratch to the bit.
 #![tactic(auto)]
 
+use params::Answer;
 use replay::{Compared, Walk, compare};
-use response::{Mapped, WorkBuffers, radon_response_u8};
+use response::{Sides, WorkBuffers, radon_response_u8};
 use std::io;
 
 // No frame file of the list is longer.
@@ -63,13 +64,16 @@ fn mapped(file: &[u8], s: &[u8], at: usize) -> Compared {
 }
 
 // The map against the list, from a place on, in the list's order and with the list's sides. A word says whether there is a scratch.
-fn against(map: Mapped, work: &WorkBuffers, s: &[u8], at: usize) -> Compared {
-    let answer = map.answer;
+fn against(map: Result<Sides, Answer>, work: &WorkBuffers, s: &[u8], at: usize) -> Compared {
+    let (answer, w, h) = match map {
+        Ok(map) => (Answer::Complete, map.w as u64, map.h as u64),
+        Err(answer) => (answer, 0, 0),
+    };
     let n = area(
         vectors::word(s, at) as usize,
         vectors::word(s, vectors::skip(s, at, 4)) as usize,
     );
-    let c = replay::sides(s, at, answer.number() as u64, map.w as u64, map.h as u64);
+    let c = replay::sides(s, at, answer.number() as u64, w, h);
     let mut c = c.then(compare(s, c.next, &*work.working, n));
     for table in [&*work.row, &*work.col, &*work.falling, &*work.rising] {
         c = c.then(compare(s, c.next, table, n));

@@ -2,22 +2,21 @@
 use mathlib.Core.Path.{◌≡◌, refl, ◌∙◌}
 use mathlib.Core.List.{List}
 use Prim.Native.Nat.{ℕ, ◌*◌}
-use Rattle.std.specs.Prelude.{Ok, Err}
+use Rattle.std.specs.Prelude.{Result, Ok, Err}
 use borrow.Author.Tests.{eq-eqb}
 use Rattle.grid.specs.Ways.{pixel}
 use Rattle.params.specs.declared.settings.RadonDetectorParams.{RadonDetectorParams}
 use Rattle.params.specs.declared.answers.Answer.{Answer}
-use Rattle.params.specs.declared.answers.Answer.TheVariants.{Complete}
 use Rattle.params.specs.Settings.{factor_of, ray_of}
 use Rattle.params.specs.Answers.{number_of}
 use Rattle.params.specs.Refusals.{as_result}
 use Rattle.params.proofs.Judged.{ok_zero, err_is}
-use Rattle.response.specs.declared.Mapped.{Mapped}
+use Rattle.response.specs.declared.Sides.{Sides}
 use Rattle.response.specs.Map.{Buffers, mapped_by, mapped_of, map_buffers_of, answered}
 
 module _ (img : List ℕ) (w h : ℕ) (p : RadonDetectorParams) (b : Buffers) where
   pub when_refused : {a : Answer} → Err a ≡ as_result (answered img w h p b)
-      → (◌≡◌ {A = Mapped} (record { answer = a; w = 0; h = 0 }) (mapped_of img w h p b)) × (b ≡ map_buffers_of img w h p b)
+      → (Err a ≡ mapped_of img w h p b) × (b ≡ map_buffers_of img w h p b)
   unfolding mapped_of map_buffers_of
   when_refused j =
       let i = err_is (answered img w h p b) refl j in
@@ -30,8 +29,8 @@ module _ (img : List ℕ) (w h : ℕ) (p : RadonDetectorParams) (b : Buffers) wh
     pub when_accepted : {factor ray blur : ℕ} → factor ≡ factor_of p.image_upsample → ray ≡ ray_of p.ray_radius
         → blur ≡ p.response_blur_radius
         → {after : Buffers} → after ≡ mapped_by factor ray blur (pixel img w) w h b
-        → (◌≡◌ {A = Mapped} (record { answer = Complete; w = factor * w; h = factor * h }) (mapped_of img w h p b)) × (after ≡ map_buffers_of img w h p b)
+        → (◌≡◌ {A = Result Sides Answer} (Ok (record { w = factor * w; h = factor * h })) (mapped_of img w h p b)) × (after ≡ map_buffers_of img w h p b)
     unfolding mapped_of map_buffers_of
     when_accepted f y l u =
         let q = eq-eqb (number_of (answered img w h p b)) 0 number_zero in
-        (rw q (λ i. record { answer = Complete; w = f i * w; h = f i * h }), rw q (u ∙ (λ i. mapped_by (f i) (y i) (l i) (pixel img w) w h b)))
+        (rw q (λ i. Ok (record { w = f i * w; h = f i * h })), rw q (u ∙ (λ i. mapped_by (f i) (y i) (l i) (pixel img w) w h b)))

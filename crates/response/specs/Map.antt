@@ -1,11 +1,10 @@
 -- The map of one call: document 01's working image, tables, response and blur put together, and what the map's own entry promises.
-use Rattle.std.specs.Prelude.{Bool, cond, List, ℕ, ◌*◌, min, eqb, length, Float}
+use Rattle.std.specs.Prelude.{Bool, cond, List, ℕ, ◌*◌, min, eqb, length, Float, Result, Ok, Err}
 use Rattle.grid.specs.Fill.{filled}
 use Rattle.grid.specs.Plane.{plane}
 use Rattle.grid.specs.Ways.{pixel, along, down, fall, rise}
 use Rattle.params.specs.declared.settings.RadonDetectorParams.{RadonDetectorParams}
 use Rattle.params.specs.declared.answers.Answer.{Answer}
-use Rattle.params.specs.declared.answers.Answer.TheVariants.{Complete}
 use Rattle.params.specs.Settings.{factor_of, ray_of}
 use Rattle.params.specs.Answers.{number_of}
 use Rattle.params.specs.Refusals.{working_of, map_refusal_of}
@@ -13,7 +12,7 @@ use Rattle.upsample.specs.Upsample.{work_at}
 use Rattle.cumsums.specs.Tables.{table_of}
 use Rattle.rays.specs.Response.{response_at}
 use Rattle.blur.specs.Blur.{blur_at, scratched}
-use Rattle.response.specs.declared.Mapped.{Mapped}
+use Rattle.response.specs.declared.Sides.{Sides}
 
 -- ---- the map of an image f, w wide and h high, at a factor, a ray radius and a blur radius.
 -- "Working width W and height H are the input's times that factor": factor * w and factor * h
@@ -95,12 +94,12 @@ answered img w h p b = map_refusal_of w h (length img) p (room_of b)
 abbrev pub accepts : Answer → Bool
 accepts a = eqb (number_of a) 0
 
--- W and H, or 0 and 0 with a refusal
-unfoldable pub mapped_of : List ℕ → ℕ → ℕ → RadonDetectorParams → Buffers → Mapped
+-- W and H, or a refusal
+unfoldable pub mapped_of : List ℕ → ℕ → ℕ → RadonDetectorParams → Buffers → Result Sides Answer
 mapped_of img w h p b =
     cond (accepts (answered img w h p b))
-    (record { answer = Complete; w = side_of w p; h = side_of h p })
-    (record { answer = answered img w h p b; w = 0; h = 0 })
+    (Ok (record { w = side_of w p; h = side_of h p }))
+    (Err (answered img w h p b))
 
 -- the buffers at the end: "no buffer changes" with a refusal
 unfoldable pub map_buffers_of : List ℕ → ℕ → ℕ → RadonDetectorParams → Buffers → Buffers

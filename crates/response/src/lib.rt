@@ -11,10 +11,9 @@ use params::{Answer, RadonDetectorParams, judge_map_call};
 use rays::{Size, ray_response};
 use upsample::upsample;
 
-// What the map's entry reports: its answer and the working image's sides.
+// The working image's sides, which are the map's.
 #[derive(Clone, Copy)]
-pub struct Mapped {
-    pub answer: Answer,
+pub struct Sides {
     pub w: usize,
     pub h: usize,
 }
@@ -51,14 +50,12 @@ pub fn radon_response_u8(
     h: usize,
     p: RadonDetectorParams,
     work: &mut WorkBuffers,
-) -> Mapped
+) -> Result<Sides, Answer>
     ensures answer { result ≡ mapped_of img.now w h p (map_now work.old) }
     ensures same { SameWork work.old work.new }
     ensures buffers { map_now work.new ≡ map_buffers_of img.now w h p (map_now work.old) }
 {
-    if let Err(answer) = judge_map_call(w, h, img.len(), p, work.room()) {
-        return Mapped { answer, w: 0, h: 0 };
-    }
+    judge_map_call(w, h, img.len(), p, work.room())?;
     let factor = p.image_upsample_clamped();
     let ray = p.ray_radius_clamped() as usize;
     let radius = p.response_blur_radius as usize;
@@ -80,9 +77,5 @@ pub fn radon_response_u8(
     };
     ray_response(working, size, tables, work.response);
     box_blur_inplace(work.response, work.scratch, ww, wh, radius);
-    Mapped {
-        answer: Answer::Complete,
-        w: ww,
-        h: wh,
-    }
+    Ok(Sides { w: ww, h: wh })
 }

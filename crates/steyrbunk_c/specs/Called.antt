@@ -3,11 +3,12 @@ use Rattle.std.specs.Prelude.{List, [], ◌∷◌, ℕ, Float, Result, Ok, Err}
 use Rattle.params.specs.declared.settings.PeakFitMode.{PeakFitMode}
 use Rattle.params.specs.declared.settings.RadonDetectorParams.{RadonDetectorParams}
 use Rattle.params.specs.declared.answers.Answer.{Answer}
+use Rattle.params.specs.declared.answers.Answer.TheVariants.{Complete}
 use Rattle.params.specs.declared.answers.Verdicts.{Verdicts}
 use Rattle.params.specs.declared.answers.Outcome.{Outcome}
 use Rattle.params.specs.Settings.{defaults, mode_numbered}
 use Rattle.params.specs.Answers.{number_of, refused}
-use Rattle.response.specs.declared.Mapped.{Mapped}
+use Rattle.response.specs.declared.Sides.{Sides}
 use Rattle.detect.specs.Detected.{peaks_outcome, list_of}
 use Rattle.radon.specs.Finder.{Buffers, outcome_of, buffers_of}
 
@@ -73,8 +74,10 @@ pub record MapTold : Type 0 where
 abbrev pub map_reported : ℕ → ℕ → ℕ → MapTold
 map_reported number w h = record { number = number; w = w; h = h }
 
-abbrev pub map_told : Mapped → MapTold
-map_told m = map_reported (number_of m.answer) m.w m.h
+-- 0, W and H, or a refusal's number, 0 and 0
+abbrev pub map_told : Result Sides Answer → MapTold
+map_told (Ok sides) = map_reported (number_of Complete) sides.w sides.h
+map_told (Err answer) = map_reported (number_of answer) 0 0
 
 -- ---- what a call comes to: the finder's or the list's own, or answer 14, which comes before 2 to 9 and 15, with zeros, and "no buffer changes"
 

@@ -253,10 +253,18 @@ pub extern "C" fn steyrbunk_response(
         response: resp,
         scratch,
     };
-    let m = radon_response_u8(img, w, h, p, work);
-    *ww = m.w;
-    *wh = m.h;
-    m.answer.number()
+    match radon_response_u8(img, w, h, p, work) {
+        Ok(map) => {
+            *ww = map.w;
+            *wh = map.h;
+            Answer::Complete.number()
+        }
+        Err(answer) => {
+            *ww = 0;
+            *wh = 0;
+            answer.number()
+        }
+    }
 }
 
 // The list of a map over its work image, both w wide and h high.

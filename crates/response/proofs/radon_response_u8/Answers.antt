@@ -1,5 +1,5 @@
 -- `response::radon_response_u8` meets its contract: refused, or the three passes one after the other. Assumes nothing.
-use Rattle.std.proofs.Common.{◌≡◌, refl, length, arith}
+use Rattle.std.proofs.Common.{◌≡◌, refl, sym, ◌∙◌, length, arith}
 use Rattle.std.proofs.lemmas.Grind.{common_steps}
 use mir.Facts.{Fits-le, Fits-lit}
 use Rattle.std.specs.Prelude.{Ok, Err}
@@ -9,15 +9,17 @@ use Rattle.response.specs.Work.{map_now}
 use Rattle.response.proofs.Runs.{Runs, runs_of, side-most}
 use Rattle.response.proofs.Composed.{composed}
 use Rattle.response.proofs.Cases.{number_zero, when_refused, when_accepted}
-use Rattle.response.proofs.radon_response_u8.Goals.{After-ray_radius_clamped-ray, In-Err, In_default}
+use Rattle.response.proofs.radon_response_u8.Goals.{After-ray_radius_clamped-ray, In_err-judge_map_call, In_ok-judge_map_call}
 use Rattle.response.proofs.radon_response_u8.Goals as goal
 
 -- what the judge said
-refusal : (c : In-Err) → let p = c.args in Err c.in-Err.answer ≡ as_result (answered p.img.now p.w p.h p.p (map_now p.work.now))
-refusal c = rw c.room.ensures at c.in-Err.ensures
+refusal : (c : In_err-judge_map_call)
+    → let p = c.args in
+    Err c.in_err-judge_map_call.field-0.0 ≡ as_result (answered p.img.now p.w p.h p.p (map_now p.work.now))
+refusal c = rw c.room.ensures at (sym c.in_err-judge_map_call.was ∙ c.judge_map_call.ensures)
 
-passes : (c : In_default) → let p = c.args in Ok tt ≡ as_result (answered p.img.now p.w p.h p.p (map_now p.work.now))
-passes c = rw c.room.ensures at c.in_default.ensures
+passes : (c : In_ok-judge_map_call) → let p = c.args in Ok tt ≡ as_result (answered p.img.now p.w p.h p.p (map_now p.work.now))
+passes c = rw c.room.ensures at (sym c.in_ok-judge_map_call.was ∙ c.judge_map_call.ensures)
 
 -- what the passes ask of the call, which is not refused
 runs : (c : After-ray_radius_clamped-ray)
@@ -30,30 +32,33 @@ runs c j =
     runs_of p.w p.h p.p (length p.img.now) (map_now p.work.now) c.image_upsample_clamped-factor.ensures
     c.ray_radius_clamped-ray.ensures refl (number_zero p.img.now p.w p.h p.p (map_now p.work.now) j)
 
-pub returns-in-Err-clause-answer : goal.returns-in-Err-clause-answer
-returns-in-Err-clause-answer c =
+pub returns-in_err-judge_map_call-clause-answer : goal.returns-in_err-judge_map_call-clause-answer
+returns-in_err-judge_map_call-clause-answer c =
     let o = c.args in
-    (when_refused o.img.now o.w o.h o.p (map_now o.work.now) (refusal (goal.at.returns-in-Err-clause-answer c).In-Err)).0
+    let q = (when_refused o.img.now o.w o.h o.p (map_now o.work.now)
+    (refusal (goal.at.returns-in_err-judge_map_call-clause-answer c).In_err-judge_map_call)).0 in
+    grind (arith, common_steps, q)
 
-pub returns-in-Err-clause-buffers : goal.returns-in-Err-clause-buffers
-returns-in-Err-clause-buffers c =
+pub returns-in_err-judge_map_call-clause-buffers : goal.returns-in_err-judge_map_call-clause-buffers
+returns-in_err-judge_map_call-clause-buffers c =
     let o = c.args in
-    (when_refused o.img.now o.w o.h o.p (map_now o.work.now) (refusal (goal.at.returns-in-Err-clause-buffers c).In-Err)).1
+    (when_refused o.img.now o.w o.h o.p (map_now o.work.now)
+    (refusal (goal.at.returns-in_err-judge_map_call-clause-buffers c).In_err-judge_map_call)).1
 
 pub overflow_mul-ww : goal.overflow_mul-ww
 overflow_mul-ww c =
-    let r = runs (goal.at.overflow_mul-ww c).After-ray_radius_clamped-ray (passes (goal.at.overflow_mul-ww c).In_default) in
+    let r = runs (goal.at.overflow_mul-ww c).After-ray_radius_clamped-ray (passes (goal.at.overflow_mul-ww c).In_ok-judge_map_call) in
     Fits-le (side-most r.two r.wide) (Fits-lit tt)
 
 pub overflow_mul-wh : goal.overflow_mul-wh
 overflow_mul-wh c =
-    let r = runs (goal.at.overflow_mul-wh c).After-ray_radius_clamped-ray (passes (goal.at.overflow_mul-wh c).In_default) in
+    let r = runs (goal.at.overflow_mul-wh c).After-ray_radius_clamped-ray (passes (goal.at.overflow_mul-wh c).In_ok-judge_map_call) in
     Fits-le (side-most r.two r.high) (Fits-lit tt)
 
 pub returns-clause-answer : goal.returns-clause-answer
 returns-clause-answer c =
     let o = c.args in
-    let j = passes (goal.at.returns-clause-answer c).In_default in
+    let j = passes (goal.at.returns-clause-answer c).In_ok-judge_map_call in
     (when_accepted o.img.now o.w o.h o.p (map_now o.work.now) j
     c.image_upsample_clamped-factor.ensures c.ray_radius_clamped-ray.ensures refl
     (composed (runs (goal.at.returns-clause-answer c).After-ray_radius_clamped-ray j) o.img.now refl c.upsample.ensures c.ray_response.ensures.filled
@@ -62,7 +67,7 @@ returns-clause-answer c =
 pub returns-clause-buffers : goal.returns-clause-buffers
 returns-clause-buffers c =
     let o = c.args in
-    let j = passes (goal.at.returns-clause-buffers c).In_default in
+    let j = passes (goal.at.returns-clause-buffers c).In_ok-judge_map_call in
     let q = (when_accepted o.img.now o.w o.h o.p (map_now o.work.now) j
     c.image_upsample_clamped-factor.ensures c.ray_radius_clamped-ray.ensures refl
     (composed (runs (goal.at.returns-clause-buffers c).After-ray_radius_clamped-ray j) o.img.now refl c.upsample.ensures c.ray_response.ensures.filled
