@@ -14,6 +14,7 @@ fn row_inside(response: usize, image: usize, w: usize, h: usize, y: usize) -> bo
 }
 
 // The response at column x of row y. None stands for "outside".
+// Slices and sides come apart: the struct of the four is `RadonResponseView`, in `view` above, and lends both slices at one lifetime.
 #[tactic(auto, using(crate::proofs::Steps::row_ends), unfolding(crate::specs::Places::place_at))]
 pub fn place_at(
     response: &[f32],

@@ -37,8 +37,10 @@ fn count_in(file: &[u8]) -> u32
     word_at(file, 9)
 }
 
+// The numbers of as many corners as the record says it has.
 fn numbers_in(file: &[u8]) -> Numbers<'_>
-    ensures { (result.file ≡ file.entry) × (result.corners ≡ count_in file.now) }
+    ensures file { result.file ≡ file.entry }
+    ensures corners { result.corners ≡ count_in file.now }
 {
     Numbers {
         file,

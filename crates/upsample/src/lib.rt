@@ -71,7 +71,8 @@ impl<'a> Source<'a> {
         }
     }
 
-    // Whether the image can be taken, whose sides are judged first, so that their product does not wrap.
+    // Whether the image can be taken, whose sides are judged first, so that their product does not wrap. `sizes::fits` is the like for working sides,
+    // which may be twice as long.
     #[tactic(auto, unfolding(crate::specs::Upsample::image_fits))]
     fn fits(self) -> bool
         ensures { result ≡ image_fits self.entry.factor self.entry.w self.entry.h (length self.entry.pixels.now) }

@@ -11,14 +11,14 @@ pub returns-in-Err-clause-list : goal.returns-in-Err-clause-list
 returns-in-Err-clause-list c = (read_refused version stride _ _ (sym c.judge_record.ensures ∙ c.in-Err.is) c.refusal.ensures).1
 
 pub fill-requires : goal.fill-requires
-fill-requires c = fill_may version stride _ _ (sym c.judge_record.ensures ∙ c.in_default.is) c.numbers_in-numbers.ensures.1
+fill-requires c = fill_may version stride _ _ (sym c.judge_record.ensures ∙ c.in_default.is) c.numbers_in-numbers.ensures.corners
 
 pub returns-clause-outcome : goal.returns-clause-outcome
 returns-clause-outcome c =
     (read_done version stride _ _ (sym c.judge_record.ensures ∙ c.in_default.is)
-    c.numbers_in-numbers.ensures.1 c.half_at.ensures.0 c.half_at-2.ensures.0 (rw c.numbers_in-numbers.ensures.0 at c.fill.ensures) c.none.ensures).0
+    c.numbers_in-numbers.ensures.corners c.half_at.ensures.0 c.half_at-2.ensures.0 (rw c.numbers_in-numbers.ensures.file at c.fill.ensures) c.none.ensures).0
 
 pub returns-clause-list : goal.returns-clause-list
 returns-clause-list c =
     (read_done version stride _ _ (sym c.judge_record.ensures ∙ c.in_default.is)
-    c.numbers_in-numbers.ensures.1 c.half_at.ensures.0 c.half_at-2.ensures.0 (rw c.numbers_in-numbers.ensures.0 at c.fill.ensures) c.none.ensures).1
+    c.numbers_in-numbers.ensures.corners c.half_at.ensures.0 c.half_at-2.ensures.0 (rw c.numbers_in-numbers.ensures.file at c.fill.ensures) c.none.ensures).1
