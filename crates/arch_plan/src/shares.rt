@@ -17,7 +17,7 @@ const STRIDE: usize = 3;
 pub fn judge_arch(cameras: usize, room: usize) -> Result<(), Answer>
     ensures { result ≡ as_result (arch_refusal cameras room) }
 {
-    if cameras < FEWEST || cameras > MOST || room / STRIDE < cameras {
+    if !(FEWEST..=MOST).contains(&cameras) || room / STRIDE < cameras {
         return Err(Answer::Cameras);
     }
     Ok(())

@@ -43,7 +43,7 @@ fn put(out: &mut [u8], at: usize, bytes: &[u8])
     }
 }
 
-// A number below 65,536 as two bytes.
+// A number as two bytes.
 #[tactic(auto, using(crate::proofs::Fits::half_is))]
 pub fn put_half(out: &mut [u8], at: usize, n: u16)
     ensures { out.new ≡ put_at at (half_bytes n) out.old }

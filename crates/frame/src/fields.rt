@@ -1,4 +1,4 @@
-// The fields of a frame file that can be refused: each answers its value or which refusal it is.
+// The fields of a frame file that can be refused. Two may hold one number alone, so they are judged; the mode is read.
 ghost use Rattle.std.specs.Prelude.{◌≡◌, ◌-◌, ◌≤◌, length};
 ghost use Rattle.big_endian.specs.BigEndian.{byte_at, word_at};
 ghost use Rattle.params.specs.Settings.{mode_numbered};
@@ -9,19 +9,19 @@ use params::{Answer, PeakFitMode};
 
 // Byte 0, which must be 1.
 #[tactic(auto, unfolding(crate::specs::Fields::held))]
-pub fn version(file: &[u8]) -> Result<u32, Answer>
+pub fn version(file: &[u8]) -> Result<(), Answer>
     ensures { result ≡ held Answer.Version (byte_at file.now 0) 1 }
 {
     let v = byte_at(file, 0);
     if v != 1 {
         return Err(Answer::Version);
     }
-    Ok(v)
+    Ok(())
 }
 
 // Bytes 1 to 4, which must be the number of bytes that follow them.
 #[tactic(auto, unfolding(crate::specs::Fields::held))]
-pub fn stated_length(file: &[u8]) -> Result<u32, Answer>
+pub fn stated_length(file: &[u8]) -> Result<(), Answer>
     requires { 20 ≤ length file.now }
     ensures { result ≡ held Answer.StatedLength (word_at file.now 1) (length file.now - 5) }
 {
@@ -29,7 +29,7 @@ pub fn stated_length(file: &[u8]) -> Result<u32, Answer>
     if stated as usize != file.len() - 5 {
         return Err(Answer::StatedLength);
     }
-    Ok(stated)
+    Ok(())
 }
 
 // Byte 12, which must be the number of a mode.

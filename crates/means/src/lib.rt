@@ -10,17 +10,18 @@ ghost use Rattle.float.specs.Values.{f0, f1};
 ghost use Rattle.grid.specs.Fill.{filled};
 ghost use Rattle.grid.specs.Touch.{touched};
 ghost use Rattle.means.specs.Means.{value_at, count_of, window_sum, mean_at, column_mean, map_fits, row_fits, column_fits};
-ghost use Rattle.means.specs.Kernel.{add_three, rows_from};
+ghost use Rattle.means.specs.Kernel.{add_three, rows_from, Makes};
 
 // The widest window that is averaged over.
 const MAX_RADIUS: usize = 3;
 
 // Each entry from a and below e becomes what f makes of its place and of itself.
 fn change<F: Fn(usize, f32) -> f32>(dst: &mut [f32], a: usize, e: usize, f: F)
-    requires { (a ≤ e) × (e ≤ length dst.old) × ((x : ℕ) (v : Float) → a ≤ x → x < e → F.pre f x v) }
-    ensures { (g : ℕ → Float → Float) → ((x : ℕ) (v r : Float) → F.post f x v r → r ≡ g x v) → dst.new ≡ touched nan a e g dst.old }
+    requires part { (a ≤ e) × (e ≤ length dst.old) }
+    requires callable { (x : ℕ) (v : Float) → a ≤ x → x < e → F.pre f x v }
+    ensures { (g : ℕ → Float → Float) → Makes (F.post f) g → dst.new ≡ touched nan a e g dst.old }
 {
-    // By index: f takes the place too, and a part of dst alone changes.
+    // Indexed: after a loop over `iter_mut().enumerate()` nothing is known of what was written.
     for x in a..e {
         dst[x] = f(x, dst[x]);
     }
@@ -46,7 +47,7 @@ fn add_three(dst: &mut [f32], src: &[f32], b: usize)
 }
 
 // The sums down the columns of src, w entries a row, over the rows from a and below e.
-// Three rows at a time, as far as that goes: dst is read and stored less often.
+// Three rows at a time, as far as that goes: dst is read and stored less often. By number: `chunks_exact` takes no width of 0.
 fn sum_columns(src: &[f32], w: usize, a: usize, e: usize, dst: &mut [f32])
     requires { (a ≤ e) × (length dst.old ≡ w) × (w * e ≤ length src.now) }
     ensures { dst.new ≡ filled w (rows_from src.now w a e) dst.old }

@@ -14,6 +14,7 @@ fn row_inside(response: usize, image: usize, w: usize, h: usize, y: usize) -> bo
 }
 
 // The response at column x of row y. None stands for "outside".
+// Slices and sides come apart: the struct of the four is `RadonResponseView`, in `view` above, and lends both slices at one lifetime.
 #[tactic(auto, using(crate::proofs::Steps::row_ends), unfolding(crate::specs::Places::place_at))]
 pub fn place_at(
     response: &[f32],
@@ -32,15 +33,9 @@ pub fn place_at(
     }
 }
 
-// Row y: that part of the response itself.
+// Row y: that part of the response itself. Outside it is the empty part, as `Row` says: the call could not fail, and cannot now.
 #[tactic(auto, using(crate::proofs::Steps::row_ends), unfolding(crate::specs::Places::row_at, crate::specs::Places::row_start))]
-pub fn row_at<'a, 'b>(
-    response: &'a [f32],
-    image: &'b [u8],
-    w: usize,
-    h: usize,
-    y: usize,
-) -> &'a [f32]
+pub fn row_at<'a>(response: &'a [f32], image: &[u8], w: usize, h: usize, y: usize) -> &'a [f32]
     ensures { Row response.entry image.now w h y result }
 {
     let entries = response.len();

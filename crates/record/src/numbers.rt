@@ -1,32 +1,60 @@
 // The numbers of a list and those of a record, and whether one of them is not finite.
-ghost use Rattle.std.specs.Prelude.{◌≡◌, ◌≤◌};
+ghost use Rattle.std.specs.Prelude.{◌≡◌, ◌*◌, ◌<◌, ◌≤◌, length};
 ghost use Rattle.grid.specs.Each.{any};
+ghost use Rattle.grid.specs.Fill.{filled};
 ghost use Rattle.grid.specs.Rect.{range};
-ghost use Rattle.record.specs.Record.{stray, number_in};
+ghost use Rattle.record.specs.Record.{stride, stray, number_in};
 
-use crate::{HEAD, WORD};
+use crate::{HEAD, STRIDE, WORD};
 use big_endian::{float, word_at};
 
 // Whether a number of a list is not finite.
+// The like of `Numbers::has_stray`, which asks by place: what both could share is this one line.
 pub fn stray_in_list(list: &[f32]) -> bool
     ensures { result ≡ any stray list.now }
 {
     list.iter().any(|x| !x.is_finite())
 }
 
-// Number i of a record; i is one that its count can have.
-#[tactic(auto, unfolding(crate::specs::Record::number_in))]
-pub fn number_in(file: &[u8], i: usize) -> f32
-    requires { i ≤ 12884901885 }
-    ensures { result ≡ number_in file.now i }
-{
-    float(word_at(file, HEAD + WORD * i))
+// The numbers of a record: those of as many corners.
+#[derive(Clone, Copy)]
+pub struct Numbers<'a> {
+    pub file: &'a [u8],
+    pub corners: u32,
 }
 
-// Whether one of the first n numbers of a record is not finite.
-pub fn stray_in_record(file: &[u8], n: usize) -> bool
-    requires { n ≤ 12884901885 }
-    ensures { result ≡ any (λ i. stray (number_in file.now i)) (range 0 n) }
-{
-    (0..n).any(|i| !number_in(file, i).is_finite())
+impl Numbers<'_> {
+    // How many there are.
+    pub fn len(self) -> usize
+        ensures { result ≡ stride * self.entry.corners }
+    {
+        STRIDE * self.corners as usize
+    }
+
+    // Number i.
+    #[tactic(auto, unfolding(crate::specs::Record::number_in))]
+    fn at(self, i: usize) -> f32
+        requires { i < stride * self.corners }
+        ensures { result ≡ number_in self.entry.file.now i }
+    {
+        float(word_at(self.file, HEAD + WORD * i))
+    }
+
+    // Whether one of them is not finite.
+    pub fn has_stray(self) -> bool
+        ensures { result ≡ any (λ i. stray (number_in self.entry.file.now i)) (range 0 (stride * self.entry.corners)) }
+    {
+        (0..self.len()).any(|i| !self.at(i).is_finite())
+    }
+
+    // All of them into a list.
+    // Indexed: what a list holds after `iter_mut().enumerate()` no clause knows.
+    pub fn fill(self, list: &mut [f32])
+        requires { stride * self.corners ≤ length list.old }
+        ensures { list.new ≡ filled (stride * self.entry.corners) (number_in self.entry.file.now) list.old }
+    {
+        for i in 0..self.len() {
+            list[i] = self.at(i);
+        }
+    }
 }

@@ -1,11 +1,10 @@
 // The reader: which records are taken, and the list of one.
-ghost use Rattle.std.specs.Prelude.{◌≡◌, ◌≤◌, length};
-ghost use Rattle.grid.specs.Fill.{filled};
+ghost use Rattle.std.specs.Prelude.{◌≡◌, length};
 ghost use Rattle.params.specs.Refusals.{as_result};
-ghost use Rattle.record.specs.Record.{version, stride, count_in, number_in, read_refusal, read_outcome, read_back};
+ghost use Rattle.record.specs.Record.{version, stride, count_in, read_refusal, read_outcome, read_back};
 ghost use Rattle.record.specs.Stages.{length_refusal, version_refusal, count_refusal, head_refusal};
 
-use crate::numbers::{number_in, stray_in_record};
+use crate::numbers::Numbers;
 use crate::{HEAD, LEAD, MOST, STRIDE, VERSION, WORD};
 use big_endian::{byte_at, half_at, word_at};
 use params::{Answer, Outcome, Verdicts};
@@ -32,10 +31,21 @@ fn judge_version(file: &[u8]) -> Result<(), Answer>
     Ok(())
 }
 
-fn count_in(file: &[u8]) -> usize
-    ensures { (result ≡ count_in file.now) × (result ≤ 4294967295) }
+fn count_in(file: &[u8]) -> u32
+    ensures { result ≡ count_in file.now }
 {
-    word_at(file, 9) as usize
+    word_at(file, 9)
+}
+
+// The numbers of as many corners as the record says it has.
+fn numbers_in(file: &[u8]) -> Numbers<'_>
+    ensures file { result.file ≡ file.entry }
+    ensures corners { result.corners ≡ count_in file.now }
+{
+    Numbers {
+        file,
+        corners: count_in(file),
+    }
 }
 
 // Answer 18. The product does not wrap: a size has 64 bits.
@@ -43,7 +53,7 @@ fn count_in(file: &[u8]) -> usize
 fn judge_count(file: &[u8]) -> Result<(), Answer>
     ensures { result ≡ as_result (count_refusal stride file.now) }
 {
-    let count = count_in(file);
+    let count = count_in(file) as usize;
     if word_at(file, 1) as usize != HEAD - LEAD + WORD * (STRIDE * count) || count > MOST {
         return Err(Answer::CornerCount);
     }
@@ -66,25 +76,15 @@ fn judge_record(file: &[u8], room: usize) -> Result<(), Answer>
     ensures { result ≡ as_result (read_refusal version stride file.now room) }
 {
     judge_head(file)?;
-    let n = STRIDE * count_in(file);
-    if stray_in_record(file, n) {
+    let numbers = numbers_in(file);
+    let n = numbers.len();
+    if numbers.has_stray() {
         return Err(Answer::NotFinite);
     }
     if room < n {
         return Err(Answer::OutputTooShort);
     }
     Ok(())
-}
-
-// The first n numbers of a record into a list.
-// Indexed: what a list holds after `iter_mut().enumerate()` no clause knows.
-fn fill(file: &[u8], n: usize, list: &mut [f32])
-    requires { (n ≤ length list.old) × (n ≤ 12884901885) }
-    ensures { list.new ≡ filled n (number_in file.now) list.old }
-{
-    for i in 0..n {
-        list[i] = number_in(file, i);
-    }
 }
 
 // The list of a record, and its sides.
@@ -95,11 +95,11 @@ pub fn read_record(file: &[u8], list: &mut [f32]) -> Outcome
     if let Err(answer) = judge_record(file, list.len()) {
         return Outcome::refusal(answer);
     }
-    let count = count_in(file);
-    fill(file, STRIDE * count, list);
+    let numbers = numbers_in(file);
+    numbers.fill(list);
     Outcome {
         answer: Answer::Complete,
-        count,
+        count: numbers.corners as usize,
         w: half_at(file, 5) as usize,
         h: half_at(file, 7) as usize,
         verdicts: Verdicts::none(),

@@ -1,9 +1,8 @@
 -- What `fits_in` and `square_fits` say and what they take, and a conjunction of tests taken apart. Assumes nothing.
 use mathlib.Core.Path.{◌≡◌, refl, sym}
 use mathlib.Core.Bool.{Bool, true, false, ◌&&◌, true≢false}
-use Prim.Native.Nat.{ℕ, ◌+◌, ◌-◌, ◌*◌, ◌≤◌, ◌<◌}
-use native.Mathlib.Omega.{arith}
-use borrow.Author.Tests.{ltb-true, ltb-false, lt-ltb, le-ltb, leb-true, le-leb}
+use Prim.Native.Nat.{ℕ, ◌+◌, ◌*◌, ◌≤◌, ◌<◌}
+use borrow.Author.Tests.{ltb-true, lt-ltb, leb-true, le-leb}
 use lib.Dec.{ltb, leb}
 use Rattle.sizes.specs.Fits.{fits_in, clear_of, square_fits}
 
@@ -30,17 +29,6 @@ pub fits_so : {w h room : ℕ} → Fitting w h room → fits_in w h room ≡ tru
 fits_so {w} {h} {room} f = true_both (le-leb w 8192 f.wide) (true_both (le-leb h 8192 f.high) (le-leb (w * h) room f.inside))
 
 -- ---- a square in the map
-
-room_after : (k c n : ℕ) → ltb k (n - c) ≡ ltb (c + k) n
-room_after k c n = go (ltb (c + k) n) refl
-  where
-    go : (t : Bool) → ltb (c + k) n ≡ t → ltb k (n - c) ≡ t
-    go true e = lt-ltb k (n - c) (omega (arith, ltb-true (c + k) n e))
-    go false e = le-ltb k (n - c) (omega (arith, ltb-false (c + k) n e))
-
--- the code's test, without a sum that could wrap: d is what is left of n after c
-pub clear_is : (k c n : ℕ) {d : ℕ} → d ≡ n - c → (leb k c && ltb k d) ≡ clear_of k c n
-clear_is k c n e = rw (e, room_after k c n)
 
 clear_of_lem : (k c n : ℕ) → clear_of k c n ≡ true → (k ≤ c) × (c + k < n)
 clear_of_lem k c n e =

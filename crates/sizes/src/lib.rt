@@ -18,12 +18,13 @@ pub fn fits(w: usize, h: usize, room: usize) -> bool
 fn clear(k: usize, c: usize, n: usize) -> bool
     ensures { result ≡ clear_of k c n }
 {
-    (k <= c) & (k < n.saturating_sub(c))
+    k <= c && k < n.saturating_sub(c)
 }
 
 // Whether the square of side 2 k + 1 around x, y lies in a map w wide and h high, and the map in a buffer of `room` entries.
+// Numbers and no struct: one caller has them of a scan, whose struct stands in a crate above, the other as numbers.
 pub fn square_fits(k: usize, room: usize, w: usize, h: usize, x: usize, y: usize) -> bool
     ensures { result ≡ square_fits k room w h x y }
 {
-    fits(w, h, room) & (clear(k, x, w) & clear(k, y, h))
+    fits(w, h, room) && clear(k, x, w) && clear(k, y, h)
 }

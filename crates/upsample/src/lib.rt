@@ -31,7 +31,7 @@ fn row_kernel(top: &[u8], low: &[u8], w: usize, dst: &mut [u8])
         return;
     }
     let last = w - 1;
-    // By index: of both rows a pixel and the next are read beside the two that are written.
+    // Indexed: after a loop over `chunks_exact_mut` nothing is known of what was written.
     for x in 0..last {
         let n = x + 1;
         let i = 2 * x;
@@ -71,7 +71,8 @@ impl<'a> Source<'a> {
         }
     }
 
-    // Whether the image can be taken, whose sides are judged first, so that their product does not wrap.
+    // Whether the image can be taken, whose sides are judged first, so that their product does not wrap. `sizes::fits` is the like for working sides,
+    // which may be twice as long.
     #[tactic(auto, unfolding(crate::specs::Upsample::image_fits))]
     fn fits(self) -> bool
         ensures { result ≡ image_fits self.entry.factor self.entry.w self.entry.h (length self.entry.pixels.now) }
@@ -124,7 +125,7 @@ impl<'a> Source<'a> {
     {
         let ww = self.factor * self.w;
         let wh = self.factor * self.h;
-        // By index: of what stands in a row after `chunks_exact_mut` nothing would be known.
+        // Indexed: of what stands in a row after `chunks_exact_mut` nothing would be known.
         for y in 0..wh {
             let i = y * ww;
             self.row(y, &mut out[i..i + ww]);

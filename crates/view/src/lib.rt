@@ -73,7 +73,8 @@ impl<'a> RadonResponseView<'a> {
     }
 }
 
-// A place of a map that is viewed for this one reading: whoever calls it needs no view.
+// A place of a map that is viewed for this one reading. This and `read_row` say what `places` says: they stay, public and in docs/CONTRACTS.md, for
+// whoever has no view.
 pub fn read_place<'a>(
     response: &'a [f32],
     image: &'a [u8],

@@ -8,10 +8,10 @@ loop-k-init c =
     let p = c.args in
     row-none p.src.now _ p.self.radius p.dst.now refl (zeroed _ (c.fill.ensures.after (search rules)))
 
-pub change-requires : goal.change-requires
-change-requires c =
+pub change-requires-clause-part : goal.change-requires-clause-part
+change-requires-clause-part c =
     let s = c.loop-k.invariant in
-    (omega arith, omega (arith, s.long, s.size), λ x v l m. search rules)
+    (omega arith, omega (arith, s.long, s.size))
 
 pub loop-k-preserved : goal.loop-k-preserved
 loop-k-preserved c =
