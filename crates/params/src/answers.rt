@@ -1,8 +1,9 @@
 // The numbered answers, and what a call reports with one.
-ghost use Rattle.std.specs.Prelude.{◌≡◌};
+ghost use Rattle.std.specs.Prelude.{◌≡◌, [], ◌∷◌};
 ghost use Rattle.params.specs.Answers.{number_of, no_verdicts, refused};
 
 // What a call answers. The numbers are document 01's to 14, and document 02's from there on. All but the first two refuse.
+// One enum for what accepts and what refuses: the documents number both in one list, which `number_of` says.
 #[derive(Clone, Copy, PartialEq, Eq)]
 pub enum Answer {
     // 0: accepted, all corners fit
@@ -61,7 +62,7 @@ impl Answer {
 }
 
 // How many candidates have each verdict, in the order of the rules: the first that they fail, or kept.
-#[derive(Clone, Copy)]
+#[derive(Clone, Copy, Default)]
 pub struct Verdicts {
     pub not_above: usize,
     pub beaten: usize,
@@ -76,19 +77,28 @@ impl Verdicts {
     pub fn none() -> Self
         ensures { result ≡ no_verdicts }
     {
-        Self {
-            not_above: 0,
-            beaten: 0,
-            too_few: 0,
-            too_flat: 0,
-            wrong_curvature: 0,
-            kept: 0,
-        }
+        Self::default()
+    }
+}
+
+// The six in that order.
+impl From<Verdicts> for [usize; 6] {
+    fn from(v: Verdicts) -> [usize; 6]
+        ensures { result ≡ v.not_above ∷ v.beaten ∷ v.too_few ∷ v.too_flat ∷ v.wrong_curvature ∷ v.kept ∷ [] }
+    {
+        [
+            v.not_above,
+            v.beaten,
+            v.too_few,
+            v.too_flat,
+            v.wrong_curvature,
+            v.kept,
+        ]
     }
 }
 
 // What a call reports: its answer, how many corners it found, the working image's sides, and what became of the candidates.
-// No `Result`: two of the answers accept, and with a refusal the other fields are reported too, as zeros (specs/Answers, `refused`).
+// No `Result`: two answers accept, 0 and 1, and a refusal too has the numbers, as zeros (`outcome_of`, `refused`, and the C interface).
 #[derive(Clone, Copy)]
 pub struct Outcome {
     pub answer: Answer,

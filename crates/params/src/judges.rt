@@ -1,4 +1,5 @@
 // The judges: which of the refusals 2 to 9 and 15 a call gets, stage by stage. Each gives the first that applies.
+// The definitions give an answer, 0 where nothing is refused: `as_result` makes of that `Ok`, and of a refusal `Err`.
 ghost use Rattle.std.specs.Prelude.{◌≡◌, cond};
 ghost use Rattle.params.specs.Refusals.{side_over, pixels_of, out_of_range, too_small, size_refusal, map_refusal, list_refusal, room_refusal};
 ghost use Rattle.params.specs.Refusals.{as_result, refusal_of, map_refusal_of};
@@ -134,7 +135,7 @@ pub fn judge_finder_call(
     let up = p.image_upsample;
     judge_size(w, h, n, up)?;
     judge_map_settings(p)?;
-    let factor = clamped(p.image_upsample) as usize;
+    let factor = p.image_upsample_clamped() as usize;
     judge_list(factor * w, factor * h, p)?;
     judge_room(pixels(w, h, up), cap)
 }

@@ -105,7 +105,16 @@ impl RadonDetectorParams {
     }
 }
 
-// The factor that an upsampling counts as.
+// Not the Rust's own default, which is that of `existing_sites`.
+impl Default for RadonDetectorParams {
+    fn default() -> Self
+        ensures { result ≡ defaults }
+    {
+        Self::new()
+    }
+}
+
+// The factor that an upsampling counts as, where there is no more of the settings than that, as in `Working::to_input`.
 pub fn clamped(up: u32) -> u32
     ensures { result ≡ factor_of up }
 {

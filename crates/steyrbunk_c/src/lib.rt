@@ -1,7 +1,7 @@
 // The finder, all cameras of an arch, the map and the list, corner records, the square root and the logarithm for a C or Rust program to call:
 // numbers and slices, and every answer as its number. A slice is a pointer and a length there. The header in tools/steyrbunk/include explains each argument.
 // An entry that takes more than before has a new name: what was built for the old one does not link, where it would be written through an argument that
-// was never passed.
+// was never passed. That the parameters are many, each buffer and each setting one, and that answers are numbers: the C interface.
 #![tactic(auto)]
 
 ghost use Rattle.std.specs.Prelude.{◌≡◌, length};
@@ -61,14 +61,7 @@ fn tell(o: Outcome, count: &mut usize, w: &mut usize, h: &mut usize) -> u32
 fn verdict_numbers(v: Verdicts) -> [usize; 6]
     ensures { result ≡ verdict_numbers v }
 {
-    [
-        v.not_above,
-        v.beaten,
-        v.too_few,
-        v.too_flat,
-        v.wrong_curvature,
-        v.kept,
-    ]
+    <[usize; 6]>::from(v)
 }
 
 // The finder: map and list of an image in one call.
@@ -132,19 +125,16 @@ pub extern "C" fn steyrbunk_corners(
 fn camera_numbers(o: Outcome) -> [usize; 10]
     ensures { result ≡ camera_numbers o }
 {
-    let counts = o.verdicts;
-    [
+    let head = [
         o.answer.number() as usize,
         o.count,
         o.w,
         o.h,
-        counts.not_above,
-        counts.beaten,
-        counts.too_few,
-        counts.too_flat,
-        counts.wrong_curvature,
-        counts.kept,
-    ]
+    ];
+    let mut numbers = [0; 10];
+    numbers[..4].copy_from_slice(&head);
+    numbers[4..].copy_from_slice(&verdict_numbers(o.verdicts));
+    numbers
 }
 
 // What the cameras of an arch are told, ten numbers each.
@@ -207,10 +197,7 @@ fn map_settings(ray: u32, up: u32, blur: u32) -> RadonDetectorParams
         ray_radius: ray,
         image_upsample: up,
         response_blur_radius: blur,
-        peak_fit: PeakFitMode::Gaussian,
-        threshold_rel: RadonDetectorParams::DEFAULT_THRESHOLD_REL,
-        nms_radius: RadonDetectorParams::DEFAULT_NMS_RADIUS,
-        min_cluster_size: RadonDetectorParams::DEFAULT_MIN_CLUSTER_SIZE,
+        ..RadonDetectorParams::new()
     }
 }
 
