@@ -5,7 +5,7 @@
 ghost use Rattle.std.specs.Prelude.{◌≡◌};
 ghost use Rattle.std.specs.Option.{unwrap_or};
 ghost use Rattle.float.specs.Values.{f0};
-ghost use Rattle.peak_fit.specs.PeakFit.{usable, all_usable, all_above, clamped, peak_of};
+ghost use Rattle.peak_fit.specs.PeakFit.{all_usable, all_above, clamped, peak_of};
 ghost use Rattle.peak_fit.specs.PeakFit.{peak_of_logs, by_mode, fit_of};
 
 use params::PeakFitMode;
@@ -21,25 +21,34 @@ const MOST: f32 = 4294967296.0;
 // A second difference above this is no peak: the neighbours are not below the middle, and a quotient would run away.
 const FLAT: f32 = -1e-12;
 
-fn is_usable(y: f32) -> bool
-    ensures { result ≡ usable y }
-{
-    0.0 <= y && y <= MOST
+// What is fitted: the values before the pixel, at it and after it, or their logarithms.
+#[derive(Clone, Copy)]
+struct Values {
+    y_minus: f32,
+    y_c: f32,
+    y_plus: f32,
 }
 
-fn all_usable(y_minus: f32, y_c: f32, y_plus: f32) -> bool
-    ensures { result ≡ all_usable y_minus y_c y_plus }
-{
-    is_usable(y_minus) && is_usable(y_c) && is_usable(y_plus)
+impl Values {
+    fn all_usable(self) -> bool
+        ensures { result ≡ all_usable self.y_minus self.y_c self.y_plus }
+    {
+        [self.y_minus, self.y_c, self.y_plus]
+            .iter()
+            .all(|y| 0.0 <= *y && *y <= MOST)
+    }
+
+    fn all_above(self) -> bool
+        ensures { result ≡ all_above self.y_minus self.y_c self.y_plus }
+    {
+        [self.y_minus, self.y_c, self.y_plus]
+            .iter()
+            .all(|y| *y > 0.0)
+    }
 }
 
-fn all_above(y_minus: f32, y_c: f32, y_plus: f32) -> bool
-    ensures { result ≡ all_above y_minus y_c y_plus }
-{
-    y_minus > 0.0 && y_c > 0.0 && y_plus > 0.0
-}
-
-// By hand, since `f32::clamp` gives a NaN back: here a NaN, which passes neither test, becomes the upper end.
+// By hand: `f32::clamp` gives a NaN back, where `clamped` says the upper end; and of two numbers that compare equal, `min` and
+// `max` leave open which one they give.
 fn clamp(frac: f32) -> f32
     ensures { result ≡ clamped frac }
 {
@@ -50,9 +59,14 @@ fn clamp(frac: f32) -> f32
     }
 }
 
-fn peak(ym: f32, y0: f32, yp: f32) -> f32
-    ensures { result ≡ peak_of ym y0 yp }
+fn peak(ys: Values) -> f32
+    ensures { result ≡ peak_of ys.y_minus ys.y_c ys.y_plus }
 {
+    let Values {
+        y_minus: ym,
+        y_c: y0,
+        y_plus: yp,
+    } = ys;
     let denom = ym - 2.0 * y0 + yp;
     if denom > FLAT {
         0.0
@@ -62,21 +76,23 @@ fn peak(ym: f32, y0: f32, yp: f32) -> f32
 }
 
 // The peak of the logarithms; none where a value is outside the logarithm's range, which leaves nothing to fit.
-fn log_peak(y_minus: f32, y_c: f32, y_plus: f32) -> Option<f32>
-    ensures { unwrap_or result f0 ≡ peak_of_logs y_minus y_c y_plus }
+fn log_peak(ys: Values) -> Option<f32>
+    ensures { unwrap_or result f0 ≡ peak_of_logs ys.y_minus ys.y_c ys.y_plus }
 {
-    Some(peak(scalar::ln(y_minus)?, scalar::ln(y_c)?, scalar::ln(y_plus)?))
+    Some(peak(Values {
+        y_minus: scalar::ln(ys.y_minus)?,
+        y_c: scalar::ln(ys.y_c)?,
+        y_plus: scalar::ln(ys.y_plus)?,
+    }))
 }
 
 // A value that is not above zero has no logarithm: there the values themselves are fitted, in either mode.
-fn by_mode(y_minus: f32, y_c: f32, y_plus: f32, mode: PeakFitMode) -> f32
-    ensures { result ≡ by_mode mode y_minus y_c y_plus }
+fn by_mode(ys: Values, mode: PeakFitMode) -> f32
+    ensures { result ≡ by_mode mode ys.y_minus ys.y_c ys.y_plus }
 {
     match mode {
-        PeakFitMode::Gaussian if all_above(y_minus, y_c, y_plus) => log_peak(
-            y_minus, y_c, y_plus,
-        ).unwrap_or(0.0),
-        _ => peak(y_minus, y_c, y_plus),
+        PeakFitMode::Gaussian if ys.all_above() => log_peak(ys).unwrap_or(0.0),
+        _ => peak(ys),
     }
 }
 
@@ -84,8 +100,13 @@ fn by_mode(y_minus: f32, y_c: f32, y_plus: f32, mode: PeakFitMode) -> f32
 pub fn fit_peak_frac(y_minus: f32, y_c: f32, y_plus: f32, mode: PeakFitMode) -> f32
     ensures { result ≡ fit_of mode y_minus y_c y_plus }
 {
-    if all_usable(y_minus, y_c, y_plus) {
-        by_mode(y_minus, y_c, y_plus, mode)
+    let ys = Values {
+        y_minus,
+        y_c,
+        y_plus,
+    };
+    if ys.all_usable() {
+        by_mode(ys, mode)
     } else {
         0.0
     }

@@ -6,7 +6,7 @@ ghost use Rattle.std.specs.Prelude.{◌≤◌};
 
 use std::io;
 
-// What stands for the answer "outside": a NaN's pattern, which no answer has.
+// What stands for the answer "outside": the list of vectors states none so, by a NaN's pattern, which no answer has.
 const OUTSIDE: u64 = 4294967295;
 
 // No list has more records of a kind.
@@ -18,14 +18,11 @@ const CLOSE: u64 = 2097151;
 // 2^31: the sign's bit of a pattern.
 const SIGN: u64 = 2147483648;
 
-// 2^63: no logarithm is so large, in the same units.
-const FAR: u64 = 9223372036854775808;
-
 // How many records agree, and the place of the first that does not.
 #[derive(Clone, Copy)]
 struct Tally {
     agree: usize,
-    first: usize,
+    first: Option<usize>,
 }
 
 fn main(rt: HostRuntime) -> io::Result<()> {
@@ -54,19 +51,19 @@ fn replayed(rt: &impl Print, s: &[u8]) -> io::Result<()> {
     };
     report(
         rt,
-        b"roots that agree:",
+        "roots that agree",
         many_roots,
         counted(s, first_root, 8, many_roots, root_agrees),
     )?;
     report(
         rt,
-        b"logarithms that agree:",
+        "logarithms that agree",
         many_logs,
         counted(s, first_log, 16, many_logs, log_agrees),
     )?;
     report(
         rt,
-        b"logarithms within 2^-19 of L:",
+        "logarithms within 2^-19 of L",
         many_logs,
         counted(s, first_log, 16, many_logs, log_is_near),
     )
@@ -91,14 +88,14 @@ fn counted<F: Fn(usize) -> bool>(
 {
     let mut tally = Tally {
         agree: 0,
-        first: many,
+        first: None,
     };
     let mut at = from;
     for i in 0..many {
         if agrees(at) {
             tally.agree += 1;
         } else {
-            tally.first = tally.first.min(i);
+            tally.first = tally.first.or(Some(i));
         }
         at = vectors::skip(s, at, size);
     }
@@ -123,13 +120,17 @@ fn pattern(answer: Option<f32>) -> u64 {
 fn near(answer: Option<f32>, expected: u64, high: u64, low: u64) -> bool
     requires { low ≤ 4294967296 }
 {
-    let bits = pattern(answer);
-    if bits == OUTSIDE || expected == OUTSIDE {
-        return bits == expected;
-    }
+    let Some(value) = answer else {
+        return expected == OUTSIDE;
+    };
+    let bits = vectors::bits(value);
+    let Some(found) = units(bits % SIGN) else {
+        return false;
+    };
     let exact = high % SIGN * 4294967296 + low;
-    let found = units(bits % SIGN);
-    if (bits < SIGN) == (high < SIGN) {
+    if expected == OUTSIDE {
+        false
+    } else if (bits < SIGN) == (high < SIGN) {
         found.abs_diff(exact) <= CLOSE
     } else {
         // Two numbers with opposite signs: their sizes together are the distance.
@@ -137,27 +138,28 @@ fn near(answer: Option<f32>, expected: u64, high: u64, low: u64) -> bool
     }
 }
 
-// The size of an f32 from 2^-27 to below 2^5 in units of 2^-40, 0 for 0, and far off for any other.
-fn units(bits: u64) -> u64 {
+// The size of an f32 from 2^-27 to below 2^5 in units of 2^-40, 0 for 0; none for any other.
+fn units(bits: u64) -> Option<u64> {
     let field = bits / 8388608;
     let digits = bits % 8388608 + 8388608;
     if bits == 0 {
-        0
+        Some(0)
     } else if field < 100 || field >= 132 {
-        FAR
+        None
     } else if field < 110 {
-        digits >> (110 - field)
+        Some(digits >> (110 - field))
     } else {
-        digits << (field - 110)
+        Some(digits << (field - 110))
     }
 }
 
 // A line for a kind of vector: how many agree, of how many, and where the first does not, counted from 0.
-fn report(rt: &impl Print, name: &[u8], many: usize, t: Tally) -> io::Result<()> {
-    rt.write_all(name)?;
-    print!(rt; " {} of {many}", t.agree)?;
-    if t.first < many {
-        print!(rt; "; the first that does not is number {}", t.first)?;
+fn report(rt: &impl Print, name: &str, many: usize, t: Tally) -> io::Result<()> {
+    match t.first {
+        None => println!(rt; "{name}: {} of {many}", t.agree),
+        Some(first) => println!(rt;
+            "{name}: {} of {many}; the first that does not is number {first}",
+            t.agree
+        ),
     }
-    rt.write_all(b"\n")
 }

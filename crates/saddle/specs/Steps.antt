@@ -1,22 +1,14 @@
 -- What the private functions of the saddle test hand each other. Assumes nothing.
-use Rattle.std.specs.Prelude.{◌≡◌, ◌&&◌, ℕ, ◌+◌, ◌-◌, ◌*◌, ◌/◌, ◌%◌, ◌^◌, ◌≤◌, ◌<◌, ltb, leb, Float}
+use Rattle.std.specs.Prelude.{◌≡◌, ◌&&◌, ℕ, ◌*◌, ◌≤◌, ◌<◌, ltb, leb, Float}
 use Rattle.grid.specs.Rect.{Place, place}
 use Rattle.grid.specs.Ways.{Inside}
-use Rattle.saddle.specs.Saddle.{side, apart, in_disk}
+use Rattle.saddle.specs.Saddle.{side, in_disk}
 
 -- the disk's part of row y is the columns from a to before e
 pub record Spans (k y a e : ℕ) : Type 0 where
   pub some : a ≤ e
   pub most : e ≤ side k
   pub is : (x : ℕ) → x < side k → in_disk k (place x y) ≡ (leb a x && ltb x e)
-
--- what the number p says of row y: the hexadecimal digit for its distance from the middle row
-abbrev pub digit : ℕ → ℕ → ℕ → ℕ
-digit k p y = p / 2 ^ (4 * apart y k) % 16
-
--- the digits of p are how far the rows reach to either side of the middle column
-pub record Packs (k p : ℕ) : Type 0 where
-  pub is : (y : ℕ) → y < side k → Spans k y (k - digit k p y) (k + digit k p y + 1)
 
 -- the square of side 2 k + 1 around x, y is in an image w wide and h high, and the image in a buffer of n entries
 pub record Around (k n w h x y : ℕ) : Type 0 where

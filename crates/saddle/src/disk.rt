@@ -2,19 +2,26 @@
 ghost use Rattle.std.specs.Prelude.{◌≡◌, ℕ, ◌-◌, ◌+◌, ◌≤◌, ◌<◌, Float};
 ghost use Rattle.grid.specs.Rect.{Place};
 ghost use Rattle.saddle.specs.Saddle.{side, offset, over_disk};
-ghost use Rattle.saddle.specs.Steps.{Spans, Packs, AddsAs};
+ghost use Rattle.saddle.specs.Steps.{Spans, AddsAs};
 
-// How far the rows of a disk reach to either side of its middle column: entry k for radius k, and in its hexadecimal
-// digit d the rows d away from the middle one. Radius 3 has 0x223: digit 1 is 2, since 2² + 1² ≤ 3² < 3² + 1².
-const REACHES: [usize; 8] = [0, 0x11, 0x12, 0x223, 0x2334, 0x34445, 0x345556, 0x3456667];
+// How far the rows of a disk reach to either side of its middle column: in row k, of radius k, entry d is of the rows d away from
+// the middle one. Radius 3 has 2 at 1, since 2² + 1² ≤ 3² < 3² + 1².
+const REACHES: [[usize; 8]; 8] = [
+    [0, 0, 0, 0, 0, 0, 0, 0],
+    [1, 1, 0, 0, 0, 0, 0, 0],
+    [2, 1, 0, 0, 0, 0, 0, 0],
+    [3, 2, 2, 0, 0, 0, 0, 0],
+    [4, 3, 3, 2, 0, 0, 0, 0],
+    [5, 4, 4, 4, 3, 0, 0, 0],
+    [6, 5, 5, 5, 4, 3, 0, 0],
+    [7, 6, 6, 6, 5, 4, 3, 0],
+];
 
-// The reaches of the radius k, looked up once for a disk, so that a row costs a shift.
+// The disk of a radius from 0 to 7.
 #[derive(Clone, Copy)]
 pub struct Disk {
     pub k: usize,
-    reaches: usize,
     ghost small: { k ≤ 7 },
-    ghost packed: { Packs k reaches },
 }
 
 impl Disk {
@@ -22,10 +29,7 @@ impl Disk {
         requires { k ≤ 7 }
         ensures { result.k ≡ k }
     {
-        Disk {
-            k,
-            reaches: REACHES[k],
-        }
+        Disk { k }
     }
 
     // How many columns to either side of the middle one the row iy has.
@@ -33,7 +37,7 @@ impl Disk {
         requires { iy < side self.k }
         ensures { Spans self.k iy (self.k - result) (self.k + result + 1) }
     {
-        (self.reaches >> (4 * iy.abs_diff(self.k))) % 16
+        REACHES[self.k][iy.abs_diff(self.k)]
     }
 
     // How far the column or row i lies from the middle one.

@@ -40,7 +40,7 @@ struct Moments {
     r2: f32,
 }
 
-// The image projected on r² - mean, x² - y² and xy; or the norms of these.
+// Three sums over a disk, of r² - mean, x² - y² and xy: each times the image, or times itself for its norm.
 #[derive(Clone, Copy)]
 struct Sums {
     u: f32,
@@ -104,11 +104,13 @@ fn numbers_of(disk: Disk) -> SaddleTest
     }
 }
 
-// The test of radius k, from 1 to 7: built once, and passed by value. There is none of another radius: zeros.
+// The test of radius k, from 1 to 7: built once, and passed by value. There is none of another radius: zeros, and no `None`, as
+// `saddle_numbers` says: a call could not fail, and cannot now.
+#[tactic(auto, unfolding(crate::specs::Saddle::saddle_numbers))]
 pub fn new(k: usize) -> SaddleTest
     ensures { result ≡ saddle_numbers k }
 {
-    if (1 <= k) & (k <= 7) {
+    if (1..=7).contains(&k) {
         numbers_of(Disk::new(k))
     } else {
         SaddleTest {
@@ -177,14 +179,15 @@ fn judged(t: SaddleTest, disk: Disk, s: Sums) -> Saddle
     }
 }
 
+#[tactic(auto, unfolding(crate::specs::Saddle::disk_fits))]
 fn disk_fits(k: usize, room: usize, w: usize, h: usize, x: usize, y: usize) -> bool
     ensures { result ≡ disk_fits k room w h x y }
 {
-    (k <= 7) & sizes::square_fits(k, room, w, h, x, y)
+    k <= 7 && sizes::square_fits(k, room, w, h, x, y)
 }
 
 // Whether the image, w wide and h high, is a saddle around x, y. A disk that does not lie in the image tells nothing,
-// as a flat one does.
+// as a flat one does: the clause says Flat there, not `None`. A call could not fail, and cannot now.
 pub fn accepts(
     t: SaddleTest,
     k: usize,
