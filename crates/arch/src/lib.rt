@@ -15,7 +15,7 @@ use params::{Answer, Outcome};
 use response::WorkBuffers;
 
 // What a call for an arch reports: its own answer, 0 or 21, and what each camera is told.
-// No `Result`: with 21 the cameras are told too, 21 and zeros each (specs/Arch, `arch_outcome`).
+// No `Result`, and always eight: a refused call tells each camera too (`arch_outcome`), in fixed memory, as the C interface has it.
 #[derive(Clone, Copy)]
 pub struct ArchOutcome {
     pub answer: Answer,

@@ -30,6 +30,7 @@ pub fn radon_corners_u8(
         Ok(map) => map,
         Err(answer) => return Outcome::refusal(answer),
     };
+    // Borrowed one by one first: no proof is made where a field is read while another behind the same reference is lent.
     let response = &mut *work.response;
     let working = &mut *work.working;
     detect::detect_peaks_from_radon(response, working, map.w, map.h, p, list)

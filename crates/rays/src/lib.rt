@@ -42,6 +42,7 @@ pub fn ray_response(img: &[u8], size: Size, lent: &mut Tables, response: &mut [f
     let room = lent.room(img.len().min(response.len()));
     if rays_fit(size, room) {
         build_cumsums(img, size.w, size.h, lent);
+        // Borrowed one by one first: no proof is made where a field is read while another behind the same reference is lent.
         let row = &mut *lent.row;
         let col = &mut *lent.col;
         let falling = &mut *lent.falling;

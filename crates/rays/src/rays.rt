@@ -63,6 +63,7 @@ fn fill_run<F: Fn(usize) -> f32>(a: usize, out: &mut [f32], f: F)
 }
 
 // The tables of one image as the rays read them: its pixels are at most 4,095, and the radius at most 7.
+// The four fields of `Tables` again, to be read alone: so the struct is copied, and its two facts hold as long as it does.
 #[derive(Clone, Copy)]
 pub struct Cumsums<'a> {
     pub row: &'a [u32],

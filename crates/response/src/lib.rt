@@ -19,6 +19,7 @@ pub struct Sides {
 }
 
 // The seven buffers that a call works in, lent to be written: each needs an entry for every working pixel.
+// Flat, and no `Tables` inside: a caller that makes the struct of its slices knew no more than their lengths afterwards (tried).
 #[derive(Drop)]
 pub struct WorkBuffers<'a> {
     pub working: &'a mut [u8],

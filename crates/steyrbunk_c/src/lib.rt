@@ -104,6 +104,7 @@ pub extern "C" fn steyrbunk_corners(
         (lent work.old row.old col.old fall.old rise.old
         resp.old scratch.old out.old) }
 {
+    // Written out in each entry: of a struct that a function makes of the slices, what they hold afterwards was tried and stays open.
     let work = &mut WorkBuffers {
         working: work,
         row,
@@ -125,12 +126,7 @@ pub extern "C" fn steyrbunk_corners(
 fn camera_numbers(o: Outcome) -> [usize; 10]
     ensures { result ≡ camera_numbers o }
 {
-    let head = [
-        o.answer.number() as usize,
-        o.count,
-        o.w,
-        o.h,
-    ];
+    let head = [o.answer.number() as usize, o.count, o.w, o.h];
     let mut numbers = [0; 10];
     numbers[..4].copy_from_slice(&head);
     numbers[4..].copy_from_slice(&verdict_numbers(o.verdicts));
