@@ -1,19 +1,19 @@
 -- How what agrees and what does not is counted, along the records of a list.
-use Rattle.std.specs.Prelude.{Bool, cond, ◌&&◌, List, ℕ, ◌-◌, eqb, ltb, length}
+use Rattle.std.specs.Prelude.{Bool, cond, ◌&&◌, List, None, Some, unwrap_or, ℕ, ◌-◌, eqb, ltb, length}
 use Rattle.vectors.specs.Vectors.{after_line}
 use Rattle.vectors.specs.Counts.{sum}
 use Rattle.replay.specs.declared.walk.Tally.{Tally}
 use Rattle.replay.specs.declared.walk.Walk.{Walk}
 
 abbrev pub none : Tally
-none = record { records = 0; wrong = 0; first = 0 }
+none = record { records = 0; wrong = 0; first = None }
 
 -- one record more, in which so many things disagree: the first record in which any does is kept
 unfoldable pub counted : Tally → ℕ → Tally
 counted t wrong =
     cond (eqb wrong 0)
     (record { records = sum t.records 1; wrong = t.wrong; first = t.first })
-    (record { records = sum t.records 1; wrong = sum t.wrong 1; first = cond (eqb t.wrong 0) t.records t.first })
+    (record { records = sum t.records 1; wrong = sum t.wrong 1; first = Some (unwrap_or t.first t.records) })
 
 -- before the first record; no list has more than 65,536
 abbrev pub opened : List ℕ → Walk

@@ -1,5 +1,5 @@
 // Along the records of a list: where the walk stands, and what was found so far.
-ghost use Rattle.std.specs.Prelude.{◌≡◌, cond, eqb, false};
+ghost use Rattle.std.specs.Prelude.{◌≡◌, false};
 ghost use Rattle.replay.specs.Tallies.{counted, opened, onward, walked};
 
 use vectors::{after_line, plus};
@@ -7,12 +7,12 @@ use vectors::{after_line, plus};
 // More records than a list has: so that a walk ends where a record has no bytes.
 const RECORDS: usize = 65536;
 
-// How many records there were, how many disagree, and the number of the first of those, counted from 0.
+// How many records there were, how many disagree, and the number of the first of those, if there is one, counted from 0.
 #[derive(Clone, Copy, Default)]
 pub struct Tally {
     pub records: usize,
     pub wrong: usize,
-    pub first: usize,
+    pub first: Option<usize>,
 }
 
 impl Tally {
@@ -28,18 +28,7 @@ impl Tally {
         Tally {
             records,
             wrong: plus(self.wrong, 1),
-            first: self.earliest(),
-        }
-    }
-
-    // The number of the first record that disagrees, where the next one does.
-    fn earliest(self) -> usize
-        ensures { result ≡ cond (eqb self.wrong 0) self.records self.first }
-    {
-        if self.wrong == 0 {
-            self.records
-        } else {
-            self.first
+            first: Some(self.first.unwrap_or(self.records)),
         }
     }
 }

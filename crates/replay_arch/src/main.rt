@@ -2,10 +2,10 @@
 // function: answer, count and sides, every number of the list, to the bit, and that each work entry which no frame reaches is as it was.
 #![tactic(auto)]
 
-use params::{Outcome, Verdicts};
+use params::{Answer, Outcome, Verdicts};
 use replay::{Compared, Entry, Walk};
 use response::WorkBuffers;
-use std::io;
+use std::{array, io};
 use vectors::{capped, differ, field, plus, skip, word};
 
 // Entries of each lent work buffer, and the bytes of the longest file that a single call takes.
@@ -38,9 +38,7 @@ struct Found {
 }
 
 fn main(rt: HostRuntime) -> io::Result<()> {
-    let mut input = vectors::room();
-    let got = input::read_full(&mut rt.stdin(), &mut input)?;
-    replayed(&rt, &input[..got])
+    tell::of_input(&mut rt.stdin(), |s| replayed(&rt, s))
 }
 
 // Every arch; then what was found.
@@ -102,10 +100,8 @@ fn record(s: &[u8], at: usize, found: &mut Found) -> Compared {
         .then(kept(&rising, reached))
         .then(kept(&response, reached))
         .then(kept(&scratch, reached));
-    let answer = outcome.answer;
-    let number = answer.number() as u64;
     // A refused arch has no camera of its own.
-    let n = if number == 0 {
+    let n = if outcome.answer == Answer::Complete {
         count(&mut found.arches, many);
         many
     } else {
@@ -113,7 +109,7 @@ fn record(s: &[u8], at: usize, found: &mut Found) -> Compared {
         0
     };
     beyond
-        .then(own(number, s, due))
+        .then(own(outcome.answer, s, due))
         .then(against(outcome.cameras, n, list, frames, s, due, found))
 }
 
@@ -123,11 +119,7 @@ fn old_float() -> f32 {
 
 // What the list holds before a call.
 fn old_numbers() -> [f32; 1024] {
-    let mut list = [0.0f32; 1024];
-    for (i, x) in list.iter_mut().enumerate() {
-        *x = vectors::float(OLD_NUMBER + i as u64);
-    }
-    list
+    array::from_fn(|i| vectors::float(OLD_NUMBER + i as u64))
 }
 
 // A work buffer, from the entry on that no frame reaches.
@@ -138,10 +130,10 @@ fn kept<T: Entry>(buffer: &[T; 2304], reached: u64) -> Compared {
 }
 
 // The arch's own answer.
-fn own(number: u64, s: &[u8], due: usize) -> Compared {
+fn own(answer: Answer, s: &[u8], due: usize) -> Compared {
     Compared {
         next: due,
-        wrong: differ(number, word(s, due)),
+        wrong: differ(u64::from(answer.number()), word(s, due)),
         values: 1,
     }
 }
@@ -216,35 +208,34 @@ fn camera(
 
 // By its answer.
 fn count_camera(told: Outcome, found: &mut Found) {
-    let answer = told.answer;
-    count(&mut found.answered, answer.number() as usize);
+    count(&mut found.answered, told.answer.number() as usize);
     found.corners = plus(found.corners, told.count);
     found.cameras = plus(found.cameras, 1);
 }
 
 // The answer, which for an accepted frame is listed as 0, and the sides; as many kept as found, and with a refusal no corners and six zeros.
 fn listed(told: Outcome, s: &[u8], at: usize) -> Compared {
-    let answer = told.answer;
-    let number = answer.number() as u64;
     let sides = plus(
         differ(told.w as u64, field(s, at, 4)),
         differ(told.h as u64, field(s, at, 8)),
     );
     let due = word(s, at);
     let next = skip(s, at, 12);
-    let v = told.verdicts;
-    if number <= 1 {
-        let kept = differ(v.kept as u64, told.count as u64);
+    if matches!(told.answer, Answer::Complete | Answer::ListFull) {
+        let kept = differ(told.verdicts.kept as u64, told.count as u64);
         return Compared {
             next,
             wrong: plus(differ(0, due), plus(sides, kept)),
             values: 4,
         };
     }
-    let head = plus(differ(number, due), differ(told.count as u64, 0));
+    let head = plus(
+        differ(u64::from(told.answer.number()), due),
+        differ(told.count as u64, 0),
+    );
     Compared {
         next,
-        wrong: plus(head, plus(sides, six(v, Verdicts::none()))),
+        wrong: plus(head, plus(sides, six(told.verdicts, Verdicts::none()))),
         values: 10,
     }
 }
@@ -264,10 +255,11 @@ fn six(a: Verdicts, b: Verdicts) -> usize {
 
 // Two outcomes.
 fn same(told: Outcome, single: Outcome) -> Compared {
-    let a = told.answer;
-    let b = single.answer;
     let head = plus(
-        differ(a.number() as u64, b.number() as u64),
+        differ(
+            u64::from(told.answer.number()),
+            u64::from(single.answer.number()),
+        ),
         differ(told.count as u64, single.count as u64),
     );
     let sides = plus(

@@ -14,7 +14,7 @@ const MOST: usize = 256;
 const NEAR: f32 = 0.001;
 
 // What was compared, and the place behind it: how many numbers disagree, and of the Gaussian corners how many have their place to the bit, within
-// the distance, beyond it.
+// the distance, beyond it. Not `replay`'s: three counts for one, and none of them is of all that was compared.
 #[derive(Clone, Copy, Default)]
 struct Compared {
     next: usize,
@@ -38,9 +38,7 @@ impl Compared {
 }
 
 fn main(rt: HostRuntime) -> io::Result<()> {
-    let mut input = vectors::room();
-    let got = input::read_full(&mut rt.stdin(), &mut input)?;
-    replayed(&rt, &input[..got])
+    tell::of_input(&mut rt.stdin(), |s| replayed(&rt, s))
 }
 
 // Every record; then what was found.
@@ -75,11 +73,10 @@ fn found(file: &[u8], s: &[u8], at: usize) -> Compared {
 
 // The answer 0, the two sides and the count.
 fn sides(outcome: Outcome, s: &[u8], at: usize) -> Compared {
-    let answer = outcome.answer;
     let c = replay::sides(
         s,
         at,
-        answer.number() as u64,
+        u64::from(outcome.answer.number()),
         outcome.w as u64,
         outcome.h as u64,
     );
@@ -119,27 +116,21 @@ fn corners(list: &[f32], count: usize, s: &[u8], at: usize, gaussian: bool) -> C
         next: at,
         ..Compared::default()
     };
-    for i in 0..count {
-        all = all.then(corner(list, i, s, all.next, gaussian));
+    for numbers in list.chunks_exact(3).take(count) {
+        all = all.then(corner(numbers, s, all.next, gaussian));
     }
     all
 }
 
 // One corner: x, y and strength.
-fn corner(list: &[f32], i: usize, s: &[u8], at: usize, gaussian: bool) -> Compared {
+fn corner(numbers: &[f32], s: &[u8], at: usize, gaussian: bool) -> Compared {
     let compared = Compared {
         next: skip(s, at, 12),
         ..Compared::default()
     };
-    if i >= MOST {
-        return Compared {
-            wrong: 1,
-            ..compared
-        };
-    }
-    let x = float_at(list, 3 * i);
-    let y = float_at(list, 3 * i + 1);
-    let strength = float_at(list, 3 * i + 2);
+    let x = float_at(numbers, 0);
+    let y = float_at(numbers, 1);
+    let strength = float_at(numbers, 2);
     let due_x = word(s, at);
     let due_y = word(s, skip(s, at, 4));
     let wrong = differ(strength, word(s, skip(s, at, 8)));

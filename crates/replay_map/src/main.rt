@@ -5,14 +5,16 @@ use params::Answer;
 use replay::{Compared, Walk, compare};
 use response::{Sides, WorkBuffers, radon_response_u8};
 use std::io;
+use vectors::{capped, field, skip, word};
 
 // No frame file of the list is longer.
 const LIMIT: usize = 2324;
 
+// No side of a map over the program's buffers that has pixels is longer.
+const MAX_SIDE: usize = 4096;
+
 fn main(rt: HostRuntime) -> io::Result<()> {
-    let mut input = vectors::room();
-    let got = input::read_full(&mut rt.stdin(), &mut input)?;
-    replayed(&rt, &input[..got])
+    tell::of_input(&mut rt.stdin(), |s| replayed(&rt, s))
 }
 
 // Every record; then what was found.
@@ -69,18 +71,15 @@ fn against(map: Result<Sides, Answer>, work: &WorkBuffers, s: &[u8], at: usize) 
         Ok(map) => (Answer::Complete, map.w as u64, map.h as u64),
         Err(answer) => (answer, 0, 0),
     };
-    let n = area(
-        vectors::word(s, at) as usize,
-        vectors::word(s, vectors::skip(s, at, 4)) as usize,
-    );
-    let c = replay::sides(s, at, answer.number() as u64, w, h);
+    let n = capped(word(s, at), MAX_SIDE) * capped(field(s, at, 4), MAX_SIDE);
+    let c = replay::sides(s, at, u64::from(answer.number()), w, h);
     let mut c = c.then(compare(s, c.next, &*work.working, n));
     for table in [&*work.row, &*work.col, &*work.falling, &*work.rising] {
         c = c.then(compare(s, c.next, table, n));
     }
     let c = c.then(compare(s, c.next, &*work.response, n));
-    let blurred = vectors::word(s, c.next);
-    let next = vectors::skip(s, c.next, 4);
+    let blurred = word(s, c.next);
+    let next = skip(s, c.next, 4);
     c.then(compare(s, next, &*work.scratch, where_one(blurred, n)))
 }
 
@@ -95,12 +94,4 @@ fn refused(s: &[u8]) -> Compared {
 
 fn where_one(flag: u64, n: usize) -> usize {
     if flag == 1 { n } else { 0 }
-}
-
-// Working pixels; 0 where a side is longer than any is.
-fn area(w: usize, h: usize) -> usize {
-    if w > 4096 || h > 4096 {
-        return 0;
-    }
-    w * h
 }

@@ -14,7 +14,8 @@ const STRENGTH: usize = 18;
 
 const CORNER: usize = 27;
 
-// What was compared, and the place behind it: lines that disagree, and corners that differ in their places alone.
+// What was compared, and the place behind it: lines that disagree, and corners that differ in their places alone. Not `replay`'s: its
+// `values` are all that was compared.
 #[derive(Clone, Copy, Default)]
 struct Compared {
     next: usize,
@@ -34,9 +35,7 @@ impl Compared {
 }
 
 fn main(rt: HostRuntime) -> io::Result<()> {
-    let mut input = vectors::room();
-    let got = input::read_full(&mut rt.stdin(), &mut input)?;
-    replayed(&rt, &input[..got])
+    tell::of_input(&mut rt.stdin(), |s| replayed(&rt, s))
 }
 
 // Every record; then what was found.
@@ -94,6 +93,7 @@ fn copy(file: &[u8], input: &mut [u8]) -> usize
 // Every line, and that the text ends with the last.
 fn printed(outcome: Outcome, list: &[f32; 768], text: &[u8], gaussian: bool) -> Compared {
     let mut all = Compared::default();
+    // By number: so `line_at` gives a line.
     for i in 0..lines::lines(outcome, list) {
         all = all.then(line(outcome, list, i, text, all.next, gaussian));
     }
@@ -114,19 +114,17 @@ fn line(
     gaussian: bool,
 ) -> Compared {
     let line = lines::line_at(outcome, list, i);
-    let bytes = line.bytes;
-    let len = line.len;
-    let next = skip(text, at, len);
+    let next = skip(text, at, line.len);
     let same = Compared {
         next,
         ..Compared::default()
     };
-    if part(&bytes, 0, len) == part(text, at, next) {
+    if part(&line.bytes, 0, line.len) == part(text, at, next) {
         return same;
     }
-    if gaussian && i > 0 && len == CORNER {
+    if gaussian && i > 0 && line.len == CORNER {
         let from = skip(text, at, STRENGTH);
-        if part(&bytes, STRENGTH, len) == part(text, from, next) {
+        if part(&line.bytes, STRENGTH, line.len) == part(text, from, next) {
             return Compared { places: 1, ..same };
         }
     }

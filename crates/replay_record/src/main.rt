@@ -2,8 +2,10 @@
 // what it wrote, to the bit, and that every other entry of the lent buffer is as it was.
 #![tactic(auto)]
 
+ghost use Rattle.std.specs.Prelude.{◌≤◌, length};
+
 use params::Outcome;
-use replay::{Walk, compare};
+use replay::{Entry, Walk, compare};
 use std::{array, io};
 use vectors::{capped, differ, field, plus, skip, word};
 
@@ -27,9 +29,7 @@ const OLD_NUMBER: u64 = 0xa5a5_a5a5;
 const MAX_SIDE: usize = 65535;
 
 fn main(rt: HostRuntime) -> io::Result<()> {
-    let mut room = vectors::room();
-    let got = input::read_full(&mut rt.stdin(), &mut room)?;
-    replayed(&rt, &room[..got])
+    tell::of_input(&mut rt.stdin(), |s| replayed(&rt, s))
 }
 
 // Every vector; then what was found.
@@ -80,7 +80,7 @@ impl Calls {
     }
 }
 
-// What was compared, and the place behind it: how many things disagree, and what the call was answered.
+// What was compared, and the place behind it: how many things disagree, and what the call was answered. One a vector: nothing is summed.
 #[derive(Clone, Copy)]
 struct Compared {
     next: usize,
@@ -88,7 +88,7 @@ struct Compared {
     answer: u64,
 }
 
-// The kind that a vector begins with.
+// The kind that a vector begins with. No `TryFrom`: to be of no kind is no error here.
 fn kind_at(s: &[u8], at: usize) -> Option<Kind> {
     match word(s, at) {
         0 => Some(Kind::Read),
@@ -113,7 +113,7 @@ fn read(file: &[u8], s: &[u8], at: usize, due: usize) -> Compared {
     let mut list = [vectors::float(OLD_NUMBER); NUMBERS];
     let room = capped(field(s, at, 12), NUMBERS);
     let outcome = record::read_record(file, &mut list[..room]);
-    against(outcome, s, at, due, list_differs(&list, s, due))
+    against(outcome, s, at, due, differs(&list, capped(word(s, due), BYTES) / 4, s, due))
 }
 
 // A list into an output, of which as much is lent as the vector says.
@@ -125,7 +125,7 @@ fn written(patterns: &[u8], s: &[u8], at: usize, due: usize) -> Compared {
     let w = side(s, at, 4);
     let h = side(s, at, 8);
     let outcome = record::write_record(w, h, &list[..n], &mut out[..room]);
-    against(outcome, s, at, due, output_differs(&out, s, due))
+    against(outcome, s, at, due, differs(&out, capped(word(s, due), BYTES), s, due))
 }
 
 // The numbers of these patterns. NaNs are all one NaN, and so is what stands behind the last pattern.
@@ -137,19 +137,12 @@ fn side(s: &[u8], at: usize, n: usize) -> u16 {
     capped(field(s, at, n), MAX_SIDE) as u16
 }
 
-// The numbers that are due, and behind them those that were there before.
-fn list_differs(list: &[f32; NUMBERS], s: &[u8], due: usize) -> usize {
-    let n = capped(word(s, due), BYTES) / 4;
-    let written = compare(s, skip(s, due, 4), list.as_slice(), n);
-    let kept = compare(&[OLD; BYTES], 0, &list[n..], NUMBERS - n);
-    plus(written.wrong, kept.wrong)
-}
-
-// The bytes that are due, and behind them those that were there before.
-fn output_differs(out: &[u8; BYTES], s: &[u8], due: usize) -> usize {
-    let n = capped(word(s, due), BYTES);
-    let written = compare(s, skip(s, due, 4), out.as_slice(), n);
-    let kept = compare(&[OLD; BYTES], 0, &out[n..], BYTES - n);
+// The n entries that are due, and behind them those that were there before.
+fn differs<T: Entry>(buffer: &[T], n: usize, s: &[u8], due: usize) -> usize
+    requires { n ≤ length buffer.now }
+{
+    let written = compare(s, skip(s, due, 4), buffer, n);
+    let kept = compare(&[OLD; BYTES], 0, &buffer[n..], buffer.len() - n);
     plus(written.wrong, kept.wrong)
 }
 

@@ -1,23 +1,31 @@
-// What the replay programs tell of a replay, on standard output.
+// How a replay program takes its list, and what it tells of the replay, on standard output.
 #![tactic(auto)]
 
 use replay::Walk;
 use std::convert::AsSlice;
 use std::io;
+use std::io::Read;
 use vectors::{after_line, part};
+
+// Reads a list, as much of it as there is room for, and has it replayed.
+pub fn of_input<R: Read, F: FnOnce(&[u8]) -> io::Result<()>>(
+    from: &mut R,
+    replayed: F,
+) -> io::Result<()>
+    requires { F.IsAlwaysCallable replayed }
+{
+    let mut room = vectors::room();
+    let got = input::read_full(from, &mut room)?;
+    replayed(&room[..got])
+}
 
 // The list's own line, the number of records, and how many disagree.
 pub fn head(rt: &impl Print, s: &[u8], w: Walk) -> io::Result<()> {
-    let tally = w.tally;
     rt.write_all(part(s, 0, after_line(s)))?;
-    say(rt, "records", tally.records)?;
-    say(rt, "records that disagree", tally.wrong)?;
-    if tally.wrong > 0 {
-        say(
-            rt,
-            "number of the first that disagrees, from 0",
-            tally.first,
-        )?;
+    say(rt, "records", w.tally.records)?;
+    say(rt, "records that disagree", w.tally.wrong)?;
+    if let Some(first) = w.tally.first {
+        say(rt, "number of the first that disagrees, from 0", first)?;
     }
     Ok(())
 }

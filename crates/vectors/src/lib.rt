@@ -8,7 +8,8 @@ ghost use Rattle.std.specs.Float.Ieee.{to_bits};
 ghost use Rattle.vectors.specs.Vectors.{zeros, byte_at, word_at, Part, after_line, behind_of, float_of, float_at, entry_at};
 ghost use Rattle.vectors.specs.Counts.{sum, differs};
 
-// What stands for a byte or a word past the end: none has this value. No `Option`: as it stands it differs from each number and is a length past any end.
+// What stands for a byte or a word past the end, a number that none has. No `Option`: a number is what `byte_at`, `word_at`, `float_at` and `entry_at` say,
+// and with them `behind_of` and the contracts of `replay`.
 const NO_BYTE: u64 = 256;
 
 const NO_WORD: u64 = 4294967296;
@@ -26,10 +27,7 @@ pub fn room() -> [u8; 1048576]
 pub fn byte(s: &[u8], at: usize) -> u64
     ensures { result ≡ byte_at s.now at }
 {
-    match s.get(at) {
-        Some(b) => u64::from(*b),
-        None => NO_BYTE,
-    }
+    s.get(at).map_or(NO_BYTE, |b| u64::from(*b))
 }
 
 // The four bytes at a place as a number, the highest first.
@@ -59,17 +57,14 @@ pub fn field(s: &[u8], at: usize, n: usize) -> u64
     word(s, skip(s, at, n))
 }
 
-// The bytes from a place to another, and none where that is no part.
+// The bytes from a place to another, and none where that is no part: `Part` says so, and a call that could not fail cannot now.
 #[tactic(auto, unfolding(crate::specs::Vectors::part_of, crate::specs::Vectors::part_start))]
 pub fn part(s: &[u8], from: usize, to: usize) -> &[u8]
     ensures { Part s.entry from to result }
 {
     // Not by `get`: its contract has a part's values, and not where it lies.
     let n = s.len();
-    if to > n {
-        return &s[n..];
-    }
-    if from > to {
+    if to > n || from > to {
         return &s[n..];
     }
     &s[from..to]
@@ -129,19 +124,13 @@ pub fn float(bits: u64) -> f32
 pub fn float_at(t: &[f32], i: usize) -> u64
     ensures { result ≡ float_at t.now i }
 {
-    match t.get(i) {
-        Some(x) => bits(*x),
-        None => NO_WORD,
-    }
+    t.get(i).map_or(NO_WORD, |x| bits(*x))
 }
 
 pub fn word_at(t: &[u32], i: usize) -> u64
     ensures { result ≡ entry_at t.now i }
 {
-    match t.get(i) {
-        Some(x) => u64::from(*x),
-        None => NO_WORD,
-    }
+    t.get(i).map_or(NO_WORD, |x| u64::from(*x))
 }
 
 // 1 where two numbers differ.
@@ -158,7 +147,7 @@ pub fn plus(a: usize, b: usize) -> usize
     a.saturating_add(b).min(MOST)
 }
 
-// A number that a list states, and 0 where it is more than may be.
+// A number that a list states, and 0 where it is more than may be: `value` says so, and a call that could not fail cannot now.
 pub fn capped(n: u64, most: usize) -> usize
     ensures value { result ≡ cond (leb n most) n 0 }
     ensures within { result ≤ most }

@@ -4,16 +4,9 @@
 use std::io;
 use view::{RadonResponseView, read_place, read_row};
 
-// The map's values are the numbers 1 to 6.
-fn digit(v: f32) -> u8 {
-    (b'1'..=b'6')
-        .find(|d| f32::from(*d - b'0') == v)
-        .unwrap_or(b'?')
-}
-
 fn show_place(rt: &impl Print, p: Option<f32>) -> io::Result<()> {
     match p {
-        Some(v) => rt.write_all(&[digit(v), b'\n']),
+        Some(v) => println!(rt; "{v}"),
         None => rt.write_all(b"outside\n"),
     }
 }
@@ -22,7 +15,7 @@ fn show_place(rt: &impl Print, p: Option<f32>) -> io::Result<()> {
 fn show_row(rt: &impl Print, row: &[f32]) -> io::Result<()> {
     match row {
         [] => rt.write_all(b"empty\n"),
-        [a, b, c] => rt.write_all(&[digit(*a), digit(*b), digit(*c), b'\n']),
+        [a, b, c] => println!(rt; "{a}{b}{c}"),
         _ => rt.write_all(b"not a row\n"),
     }
 }
