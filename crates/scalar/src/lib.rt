@@ -8,6 +8,8 @@ ghost use Rattle.scalar.specs.Log.{log_of, Near, terms, high};
 mod logarithm;
 mod square_root;
 
+use logarithm::Count;
+
 // The ends of the logarithm's range, 2^-6 and 2^24: both are inside.
 const LEAST: f32 = 0.015625;
 
@@ -34,7 +36,10 @@ pub fn ln(x: f32) -> Option<f32>
     ensures close { (v : Float) → result ≡ Some v → Near terms x v }
 {
     if x >= LEAST && x <= MOST {
-        Some(logarithm::difference(logarithm::units(x.to_bits()), 6 * logarithm::THIRD))
+        let six = Count {
+            units: 6 * logarithm::THIRD,
+        };
+        Some(logarithm::difference(logarithm::units(x.to_bits()), six))
     } else {
         None
     }

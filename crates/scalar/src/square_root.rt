@@ -60,6 +60,8 @@ fn nearest_root(n: u64) -> u64
 }
 
 // A subnormal number is multiplied by 4 until it is large enough.
+// Counted down by hand: by `leading_zeros` it would be a shift by twice the half, rounded up, of how many are too many, which is
+// no plainer.
 fn scaled_low(b: u32) -> Scaling
     requires { (0 < b) × (b < 8388608) }
     ensures { Scales b result.n result.h }
