@@ -9,3 +9,4 @@ pub mod Rounding
 pub mod Close
 pub mod Facts
 pub mod Examples
+pub mod Places

@@ -27,32 +27,43 @@ fn odd_sum(z: u64) -> u64
     sum
 }
 
-// The logarithm of 2^6 times the number of the pattern b, in units.
-pub fn units(b: u32) -> u64
+// So many units, which are rounded to an f32 below 2^32.
+#[derive(Clone, Copy)]
+pub struct Count {
+    pub units: u64,
+    ghost small: { units < roomy },
+}
+
+// The logarithm of 2^6 times the number of the pattern b.
+pub fn units(b: u32) -> Count
     requires { (least_bits ≤ b) × (b ≤ most_bits high) }
-    ensures { (result ≡ units_of terms b) × (result < roomy) }
+    ensures { result.units ≡ units_of terms b }
 {
     let t = (b % 8388608) as u64;
     let e = (b / 8388608 - 121) as u64;
-    e * THIRD + odd_sum(t * ONE / (t + 16777216))
+    Count {
+        units: e * THIRD + odd_sum(t * ONE / (t + 16777216)),
+    }
 }
 
 // d units as an f32, rounded once: dividing by 2^27 is exact.
-fn float_of(d: u64) -> f32
-    requires { d < roomy }
-    ensures { result ≡ float_of d }
+fn float_of(d: Count) -> f32
+    ensures { result ≡ float_of d.units }
 {
-    std::num::nearest_u32_to_f32(d as u32) / 134217728.0
+    std::num::nearest_u32_to_f32(d.units as u32) / 134217728.0
 }
 
 // a - c units as an f32.
-pub fn difference(a: u64, c: u64) -> f32
-    requires { (a < roomy) × (c < roomy) }
-    ensures { result ≡ difference a c }
+pub fn difference(a: Count, c: Count) -> f32
+    ensures { result ≡ difference a.units c.units }
 {
-    if c <= a {
-        float_of(a - c)
+    if c.units <= a.units {
+        float_of(Count {
+            units: a.units - c.units,
+        })
     } else {
-        -float_of(c - a)
+        -float_of(Count {
+            units: c.units - a.units,
+        })
     }
 }

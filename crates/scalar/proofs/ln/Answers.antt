@@ -29,7 +29,7 @@ pub returns-then-x-2-clause-value : goal.returns-then-x-2-clause-value
 unfolding log_of
 returns-then-x-2-clause-value c =
     simp (from_low c.args.x c.if-x.true, to_high c.args.x c.if-x-2.true)
-    (ap Some (c.difference.ensures ∙ rw (c.units.ensures.0, third_is)))
+    (ap Some (c.difference.ensures ∙ rw (c.units.ensures, third_is)))
 
 pub returns-then-x-2-clause-close : goal.returns-then-x-2-clause-close
 returns-then-x-2-clause-close c = λ v e.

@@ -9,4 +9,4 @@ unfolding float_of of_bits
 as_written d y e = ap (λ (z : Float). div binary32 z (of_bits binary32 0x4d00_0000)) e
 
 pub returns : goal.returns
-returns c = as_written c.args.d c.nearest_u32_to_f32.result c.nearest_u32_to_f32.ensures
+returns c = as_written c.args.d.units c.nearest_u32_to_f32.result c.nearest_u32_to_f32.ensures
