@@ -9,4 +9,3 @@ pub mod Rounding
 pub mod Close
 pub mod Facts
 pub mod Examples
-pub mod Places

@@ -1,4 +1,4 @@
-// The square root of an f32, correctly rounded, and a natural logarithm that is a cut series, worked out in whole numbers.
+// The square root of an f32, correctly rounded, and a natural logarithm that is a cut series: both are worked out in whole numbers.
 #![tactic(auto)]
 
 ghost use Rattle.std.specs.Prelude.{◌≡◌, Float, Some};
@@ -6,6 +6,7 @@ ghost use Rattle.scalar.specs.Root.{root_of};
 ghost use Rattle.scalar.specs.Log.{log_of, Near, terms, high};
 
 mod logarithm;
+mod square_root;
 
 use logarithm::Count;
 
@@ -13,9 +14,6 @@ use logarithm::Count;
 const LEAST: f32 = 0.015625;
 
 const MOST: f32 = 16777216.0;
-
-// The pattern of infinity: those below it are the finite numbers from +0 up.
-const INFINITE: u32 = 2139095040;
 
 // The nearest f32 to the root of x; none for NaN, infinities, numbers below 0 and negative zero.
 pub fn sqrt(x: f32) -> Option<f32>
@@ -25,7 +23,11 @@ pub fn sqrt(x: f32) -> Option<f32>
         return None;
     }
     let b = x.to_bits();
-    if b < INFINITE { Some(x.sqrt()) } else { None }
+    if b < square_root::INFINITE {
+        Some(f32::from_bits(square_root::root_bits(b)))
+    } else {
+        None
+    }
 }
 
 // The logarithm's series at x, to within 2^-19; none for NaN and for what is not in the range.
