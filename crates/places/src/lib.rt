@@ -33,7 +33,7 @@ pub fn place_at(
     }
 }
 
-// Row y: that part of the response itself. Outside it is the empty part, as `Row` says: the call could not fail, and cannot now.
+// Row y: that part of the response itself. Outside it is the empty part, as `Row` says: no call fails.
 #[tactic(auto, using(crate::proofs::Steps::row_ends), unfolding(crate::specs::Places::row_at, crate::specs::Places::row_start))]
 pub fn row_at<'a>(response: &'a [f32], image: &[u8], w: usize, h: usize, y: usize) -> &'a [f32]
     ensures { Row response.entry image.now w h y result }

@@ -105,7 +105,7 @@ fn numbers_of(disk: Disk) -> SaddleTest
 }
 
 // The test of radius k, from 1 to 7: built once, and passed by value. There is none of another radius: zeros, and no `None`, as
-// `saddle_numbers` says: a call could not fail, and cannot now.
+// `saddle_numbers` says: no call fails.
 #[tactic(auto, unfolding(crate::specs::Saddle::saddle_numbers))]
 pub fn new(k: usize) -> SaddleTest
     ensures { result ≡ saddle_numbers k }
@@ -187,7 +187,7 @@ fn disk_fits(k: usize, room: usize, w: usize, h: usize, x: usize, y: usize) -> b
 }
 
 // Whether the image, w wide and h high, is a saddle around x, y. A disk that does not lie in the image tells nothing,
-// as a flat one does: the clause says Flat there, not `None`. A call could not fail, and cannot now.
+// as a flat one does: the clause says Flat there, not `None`: no call fails.
 pub fn accepts(
     t: SaddleTest,
     k: usize,

@@ -1,6 +1,6 @@
 // The square root of a bit pattern, in whole numbers: the pattern is scaled by a power of 4 to n, the root of n is rounded,
 // and the pattern is put together again.
-// By hand: no law leads from the library's `f32::sqrt`, a fraction rounded, to `root_of`, which compares squares.
+// By hand: the library's `f32::sqrt` is an operation of the machine, which would be trusted where this is proved.
 ghost use Rattle.std.specs.Prelude.{◌≡◌, ◌<◌, ◌≤◌};
 ghost use Rattle.scalar.specs.Bits.{infinite};
 ghost use Rattle.scalar.specs.Root.{root_bits};
