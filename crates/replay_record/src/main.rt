@@ -113,7 +113,13 @@ fn read(file: &[u8], s: &[u8], at: usize, due: usize) -> Compared {
     let mut list = [vectors::float(OLD_NUMBER); NUMBERS];
     let room = capped(field(s, at, 12), NUMBERS);
     let outcome = record::read_record(file, &mut list[..room]);
-    against(outcome, s, at, due, differs(&list, capped(word(s, due), BYTES) / 4, s, due))
+    against(
+        outcome,
+        s,
+        at,
+        due,
+        differs(&list, capped(word(s, due), BYTES) / 4, s, due),
+    )
 }
 
 // A list into an output, of which as much is lent as the vector says.
@@ -125,7 +131,13 @@ fn written(patterns: &[u8], s: &[u8], at: usize, due: usize) -> Compared {
     let w = side(s, at, 4);
     let h = side(s, at, 8);
     let outcome = record::write_record(w, h, &list[..n], &mut out[..room]);
-    against(outcome, s, at, due, differs(&out, capped(word(s, due), BYTES), s, due))
+    against(
+        outcome,
+        s,
+        at,
+        due,
+        differs(&out, capped(word(s, due), BYTES), s, due),
+    )
 }
 
 // The numbers of these patterns. NaNs are all one NaN, and so is what stands behind the last pattern.
