@@ -1,4 +1,4 @@
--- The two steps of `text::number`, a single digit, and the digits before the last with that behind them; and a numeral
+-- The two steps of `Line::number`, a single digit, and the digits before the last with that behind them; and a numeral
 -- with a byte behind it. Assumes nothing.
 use mathlib.Core.Path.{◌≡◌, sym, ap, ◌∙◌}
 use mathlib.Core.Bool.{Bool, true, false}
@@ -14,7 +14,7 @@ use Rattle.lines.proofs.Numerals.{single, falls}
 use Rattle.lines.proofs.Numerals.{numeral_last, numeral_more, numeral-some, numeral-most}
 use Rattle.lines.proofs.Appended.{appended_more, appended_len}
 
--- what `text::number` asks, and the measure t of the call
+-- what `Line::number` asks, and the measure t of the call
 pub record Due (line : Line) (base least n t : ℕ) : Type 0 where
   pub measure : n + least ≡ t
   pub two : 2 ≤ base

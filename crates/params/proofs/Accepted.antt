@@ -1,9 +1,9 @@
 -- What a call that is not refused has passed: each row of the table of answers, the other way round. Assumes nothing.
-use mathlib.Core.Path.{◌≡◌, refl, sym, ap, ◌∙◌}
+use mathlib.Core.Path.{◌≡◌, refl, sym, ◌∙◌}
 use mathlib.Core.Bool.{Bool, true, false, ◌||◌, cond, true≢false}
 use Prim.Native.Nat.{ℕ, ◌*◌, ◌≤◌, ◌<◌}
 use native.Mathlib.Nat.{mul-le-mul}
-use borrow.Author.Tests.{le-ltb, ltb-false, leb-false, eqb-true, eq-eqb, ne_eqb, not-false}
+use borrow.Author.Tests.{le-ltb, ltb-false, leb-false, eqb-true, eq-eqb, not-false}
 use lib.Dec.{T, eqb}
 use lib.Ieee.{le, is_nan, of_bits}
 use Rattle.float.specs.Values.{f0, f1}
@@ -52,29 +52,6 @@ both_pass a b e = go (eqb (number_of a) 0) refl e
     go : (t : Bool) → eqb (number_of a) 0 ≡ t → number_of (cond t b a) ≡ 0 → (number_of a ≡ 0) × (number_of b ≡ 0)
     go true q h = (eqb-true (number_of a) 0 q, h)
     go false q h = absurd (true≢false (sym (eq-eqb (number_of a) 0 h) ∙ q))
-
--- a chain's answer as code finds it: a is what a judge said of the stage s, n the number of that
-module _ (s b : Answer) {a : Answer} {n : ℕ} (is : a ≡ s) (number : n ≡ number_of a) where
-  pub stage_refuses : (n ≡ 0 → ⊥) → a ≡ or_else s b
-  stage_refuses z = rw (← is, ne_eqb (number_of a) 0 (λ e. z (number ∙ e)))
-
-  pub stage_passes : {r : Answer} → n ≡ 0 → r ≡ b → r ≡ or_else s b
-  stage_passes z e = rw (← is, eq-eqb (number_of a) 0 (sym number ∙ z)) e
-
--- two stages that are joined: a and b are what was said of them
-pub stages_joined : {s t a b r : Answer} → a ≡ s → b ≡ t → r ≡ or_else a b → r ≡ or_else s t
-stages_joined first rest e = rw (first, rest) at e
-
-pub stage_zero : (s : Answer) {a : Answer} {n : ℕ} → a ≡ s → n ≡ number_of a → n ≡ 0 → number_of s ≡ 0
-stage_zero s is number z = rw (← is) (sym number ∙ z)
-
--- what is asked after a stage matters only where that stage passes
-pub stage_asks : (s : Answer) {b c : Answer} → (number_of s ≡ 0 → b ≡ c) → or_else s b ≡ or_else s c
-stage_asks s {b} {c} same = go (eqb (number_of s) 0) refl
-  where
-    go : (t : Bool) → eqb (number_of s) 0 ≡ t → cond t b s ≡ cond t c s
-    go true q = same (eqb-true (number_of s) 0 q)
-    go false q = refl
 
 -- ---- sides that are not too long
 
@@ -154,18 +131,6 @@ room_passes pixels room e = ltb-false _ _ (past _ _ _ refl e).0
 -- ---- the whole tables
 
 module _ (width height image : ℕ) (p : RadonDetectorParams) (room : ℕ) where
-  -- the stages as the code joins them: what each judge said, and n for W·H
-  pub stages_are : (list : Answer) {size map lent from_list from-map r : Answer} {n : ℕ}
-      → size ≡ size_refusal width height image p.image_upsample → map ≡ map_refusal p
-      → n ≡ cond (side_over width height) 0 (pixels_of width height p.image_upsample) → lent ≡ room_refusal n room
-      → from_list ≡ or_else list lent → from-map ≡ or_else map from_list → r ≡ or_else size from-map
-      → r ≡ stages_of width height image p list room
-  stages_are list size map pixels lent a b c =
-      stages_joined size (stages_joined map (stages_joined {s = list} refl lent a) b) c
-      ∙ stage_asks (size_refusal width height image p.image_upsample) (λ z.
-      ap (λ (n : ℕ). or_else (map_refusal p) (or_else list (room_refusal n room)))
-      (pixels_exact width height (sides_pass width height image p.image_upsample z) p.image_upsample pixels))
-
   -- the stages of both: what is said for the list is a parameter
   stages_pass : (list : Answer) → number_of (stages_of width height image p list room) ≡ 0
       → SizesPass width height image p.image_upsample × MapPasses p × (number_of list ≡ 0)

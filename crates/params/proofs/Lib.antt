@@ -1,4 +1,3 @@
 -- What the proofs of the functions cite, and what an accepted call has passed.
-pub mod Chain
 pub mod Judged
 pub mod Accepted

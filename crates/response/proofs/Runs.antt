@@ -67,14 +67,3 @@ module _ (w h : ℕ) (p : RadonDetectorParams) (image : ℕ) (b : Buffers) where
         response-room = floats.0;
         scratch-room = floats.1;
       }
-
--- the least of seven lengths, as the code finds it
-pub least_of_seven : (i row col fall rise resp s : ℕ) {one two tables floats rest room : ℕ} → one ≡ min row col
-    → two ≡ min fall rise → tables ≡ min one two → floats ≡ min resp s → rest ≡ min tables floats → room ≡ min i rest
-    → room ≡ min i (min (min (min row col) (min fall rise)) (min resp s))
-least_of_seven i row col fall rise resp s a b c d e f = rw (f, e, d, c, b, a)
-
-pub room_by : (b : Buffers) {one two tables floats rest room : ℕ} → one ≡ min (length b.row) (length b.col)
-    → two ≡ min (length b.falling) (length b.rising) → tables ≡ min one two → floats ≡ min (length b.response) (length b.scratch)
-    → rest ≡ min tables floats → room ≡ min (length b.working) rest → room ≡ room_of b
-room_by b = least_of_seven _ _ _ _ _ _ _
