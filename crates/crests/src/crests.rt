@@ -91,6 +91,7 @@ fn eight_crests(s: &[f32], i: usize, floor: f32) -> bool
 }
 
 // Where a search along a row stands, and how many of the places that it passed are above the floor.
+// No `Option`: where there is none, `end` is the range's own, and what was passed counts all the same (`Sought`).
 #[derive(Clone, Copy)]
 pub struct Stretch {
     pub end: usize,

@@ -5,7 +5,7 @@ ghost use Rattle.crests.specs.Maximum.{entry, greater, greatest_of};
 
 use super::crests::eight_above;
 
-// The greater of two, the first where neither is.
+// The greater of two, the first where neither is. By hand: of two that compare equal the contract of `max` leaves open which it gives.
 fn greater_of(m: f32, v: f32) -> f32
     ensures { result ≡ greater m v }
 {

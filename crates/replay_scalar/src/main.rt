@@ -102,7 +102,7 @@ fn counted<F: Fn(usize) -> bool>(
     tally
 }
 
-// The root, or the logarithm, of the number whose pattern stands at a place.
+// The root, or the logarithm, of the number whose pattern stands at a place: a call each, and all else is `pattern`'s.
 fn root(s: &[u8], at: usize) -> Option<f32> {
     scalar::sqrt(vectors::float(vectors::word(s, at)))
 }

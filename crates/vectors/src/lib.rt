@@ -57,7 +57,7 @@ pub fn field(s: &[u8], at: usize, n: usize) -> u64
     word(s, skip(s, at, n))
 }
 
-// The bytes from a place to another, and none where that is no part: `Part` says so, and a call that could not fail cannot now.
+// The bytes from a place to another, and none where that is no part: `Part` says so, and no call fails.
 #[tactic(auto, unfolding(crate::specs::Vectors::part_of, crate::specs::Vectors::part_start))]
 pub fn part(s: &[u8], from: usize, to: usize) -> &[u8]
     ensures { Part s.entry from to result }
@@ -147,7 +147,7 @@ pub fn plus(a: usize, b: usize) -> usize
     a.saturating_add(b).min(MOST)
 }
 
-// A number that a list states, and 0 where it is more than may be: `value` says so, and a call that could not fail cannot now.
+// A number that a list states, and 0 where it is more than may be: `value` says so, and no call fails.
 pub fn capped(n: u64, most: usize) -> usize
     ensures value { result ≡ cond (leb n most) n 0 }
     ensures within { result ≤ most }

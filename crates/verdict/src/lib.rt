@@ -94,7 +94,8 @@ fn by_rules(resp: &[f32], image: &[u8], scan: Scan, x: usize, y: usize) -> Verdi
     Verdict::from(accepts(scan.test, k, image, w, h, x, y))
 }
 
-// The verdict on the candidate at (x, y). Where its window does not lie in the map nothing is known of it: it is not above the floor.
+// The verdict on the candidate at (x, y). Where its window does not lie in the map nothing is known of it: it is not
+// above the floor, as `judged_in` says, and no call fails.
 pub fn judge_at(resp: &[f32], image: &[u8], scan: Scan, x: usize, y: usize) -> Verdict
     ensures { result ≡ judged_in scan resp.now image.now x y }
 {
