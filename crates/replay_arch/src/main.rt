@@ -26,7 +26,7 @@ const OLD_WORD: u32 = 0xa5a5_a5a5;
 const OLD_NUMBER: u64 = 0xa5a5_0000;
 
 // What was found: arches by their camera count, and those refused; cameras by the number of their answer, all of them, those held to a single call,
-// and their corners.
+// and their corners. Two are arrays by number: `tell::each` prints a line for each place.
 #[derive(Clone, Copy, Default)]
 struct Found {
     arches: [usize; 32],
@@ -242,15 +242,9 @@ fn listed(told: Outcome, s: &[u8], at: usize) -> Compared {
 
 // Of two calls' six counts, those that differ.
 fn six(a: Verdicts, b: Verdicts) -> usize {
-    let both = [
-        (a.not_above, b.not_above),
-        (a.beaten, b.beaten),
-        (a.too_few, b.too_few),
-        (a.too_flat, b.too_flat),
-        (a.wrong_curvature, b.wrong_curvature),
-        (a.kept, b.kept),
-    ];
-    both.iter().filter(|(m, n)| *m != *n).count()
+    let a = <[usize; 6]>::from(a);
+    let b = <[usize; 6]>::from(b);
+    a.iter().zip(&b).filter(|(m, n)| *m != *n).count()
 }
 
 // Two outcomes.

@@ -92,14 +92,7 @@ fn sides(outcome: Outcome, s: &[u8], at: usize) -> Compared {
 fn counts(v: Verdicts, s: &[u8], at: usize) -> Compared {
     let mut next = at;
     let mut wrong: usize = 0;
-    for n in [
-        v.not_above,
-        v.beaten,
-        v.too_few,
-        v.too_flat,
-        v.wrong_curvature,
-        v.kept,
-    ] {
+    for n in <[usize; 6]>::from(v) {
         wrong = plus(wrong, differ(n as u64, word(s, next)));
         next = skip(s, next, 4);
     }

@@ -82,6 +82,7 @@ fn put(file: &[u8], input: &mut [u8; 2325]) -> usize
     copy(file, input)
 }
 
+// Over a slice: with the array in its place the check leaves the clause open.
 fn copy(file: &[u8], input: &mut [u8]) -> usize
     ensures { take result input.new ≡ take (length input.old) file.now }
 {

@@ -34,8 +34,8 @@ fn main(rt: HostRuntime) -> io::Result<()> {
 
 // Every vector; then what was found.
 fn replayed(rt: &impl Print, s: &[u8]) -> io::Result<()> {
-    let mut reads = Calls::none();
-    let mut writes = Calls::none();
+    let mut reads = Calls::default();
+    let mut writes = Calls::default();
     let walk = Walk::along(s, |at| {
         let kind = kind_at(s, at);
         let c = vector(kind, s, at);
@@ -51,21 +51,14 @@ fn replayed(rt: &impl Print, s: &[u8]) -> io::Result<()> {
     writes.tell(rt, "writes")
 }
 
-// How many calls there were, and how many had each answer.
-#[derive(Drop)]
+// How many calls there were, and how many had each answer: by number, since `tell::each` prints a line for each place.
+#[derive(Drop, Default)]
 struct Calls {
     all: usize,
     answered: [usize; 31],
 }
 
 impl Calls {
-    fn none() -> Self {
-        Self {
-            all: 0,
-            answered: [0; 31],
-        }
-    }
-
     // One call more of that answer.
     fn count(&mut self, answer: u64) {
         let i = capped(answer, 30);

@@ -19,7 +19,7 @@ const CLOSE: u64 = 2097151;
 const SIGN: u64 = 2147483648;
 
 // How many records agree, and the place of the first that does not.
-#[derive(Clone, Copy)]
+#[derive(Clone, Copy, Default)]
 struct Tally {
     agree: usize,
     first: Option<usize>,
@@ -86,10 +86,7 @@ fn counted<F: Fn(usize) -> bool>(
 ) -> Tally
     requires { F.IsAlwaysCallable agrees }
 {
-    let mut tally = Tally {
-        agree: 0,
-        first: None,
-    };
+    let mut tally = Tally::default();
     let mut at = from;
     for i in 0..many {
         if agrees(at) {

@@ -24,6 +24,8 @@ pub fn room() -> [u8; 1048576]
     [0; 1048576]
 }
 
+// Here and below a list and a place in it come as two: who replays a list keeps the place alone. This, `word_at` and `float_at` are a line each,
+// and each has a definition of its own.
 pub fn byte(s: &[u8], at: usize) -> u64
     ensures { result ≡ byte_at s.now at }
 {
