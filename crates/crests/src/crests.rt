@@ -15,7 +15,7 @@ fn above_in(part: &[f32], floor: f32) -> u32
     part.iter().map(|v| u32::from(*v > floor)).sum()
 }
 
-// How many values are above the floor. A slice that is too long for a u32 to count has none.
+// How many values are above the floor. A slice that is too long for a u32 to count has none: 0, as `above_count` says, and no call fails.
 pub fn count_above(s: &[f32], floor: f32) -> u32
     ensures { result ≡ above_count floor s.now }
 {
@@ -52,7 +52,7 @@ pub fn eight_above(s: &[f32], i: usize, floor: f32) -> bool
     eight(|k| s[k] > floor, i)
 }
 
-// How far eights without a value above the floor go.
+// How far eights without a value above the floor go. By number: how far it came is the answer.
 fn pass_eights(s: &[f32], floor: f32) -> usize
     ensures { Passed (over floor s.now) 0 (length s.now) result }
 {
@@ -109,7 +109,8 @@ struct Run<'a> {
 }
 
 impl Run<'_> {
-    // How far eights without a crest go. Mostly none of the eight is above the floor: no neighbour need be read, and there is none to count.
+    // How far eights without a crest go, by number: the places beside the eight are asked too. Mostly none of the eight is above the floor:
+    // no neighbour need be read, and there is none to count.
     fn pass_flat_eights(&self) -> Stretch
         ensures { Went self.now.floor self.now.s.now self.now.from self.now.to result.end result.above }
     {
@@ -131,7 +132,7 @@ impl Run<'_> {
         }
     }
 
-    // The first crest; `to` where there is none.
+    // The first crest; `to` where there is none. By number: a crest is asked with both its neighbours.
     fn next_crest(&self) -> Stretch
         ensures { Next (crest self.now.floor self.now.s.now) self.now.from self.now.to result.end × (result.above ≡ above_from self.now.floor self.now.s.now self.now.from result.end) }
     {

@@ -133,7 +133,7 @@ impl<'a> Source<'a> {
     }
 }
 
-// Working row y. What does not fit changes nothing.
+// Working row y, beside `upsample`: both are public, and what they share is `Source`. What does not fit changes nothing.
 pub fn upsample_row(src: &[u8], w: usize, h: usize, factor: u32, y: usize, out: &mut [u8])
     ensures { out.new ≡ cond (row_fits factor w h y (length src.now) (length out.old))
         (filled (factor * w) (λ x. work_at factor (pixel src.now w) w h x y) out.old)

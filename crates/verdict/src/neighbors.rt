@@ -1,4 +1,4 @@
-// The two tests of a candidate's square window. The source's tests for the map's edge are gone: a candidate lies so far inside
+// The two tests of a candidate's square window. The Rust also tests for the map's edge; here a candidate lies so far inside
 // (ray + suppression radius + 1) that they never fire, and a window lies in the map.
 ghost use Rattle.std.specs.Prelude.{◌≡◌, not, ◌+◌, ◌*◌, ◌<◌, ◌≤◌, length};
 ghost use Rattle.grid.specs.Rect.{place};
