@@ -65,7 +65,7 @@ fn pass_eights(s: &[f32], floor: f32) -> usize
     8 * eights
 }
 
-// The first place whose value is above the floor; the slice's length where there is none.
+// The first place whose value is above the floor; the slice's length where there is none, and no `Option`: no call fails.
 pub fn first_above(s: &[f32], floor: f32) -> usize
     ensures { Next (over floor s.now) 0 (length s.now) result }
 {

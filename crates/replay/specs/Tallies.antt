@@ -32,6 +32,6 @@ walked w next wrong = record { next = next; left = w.left - 1; tally = counted w
 abbrev pub Steps : {V : Type 0} → (List ℕ → V → ℕ → ℕ → ℕ → V → Type 0) → List ℕ → V × Walk → ℕ × ℕ → V × Walk → Type 0
 Steps visits s p a q = (onward s p.1 ≡ true) × visits s p.0 p.1.next a.0 a.1 q.0 × (q.1 ≡ walked p.1 a.0 a.1)
 
--- a visit of each record in order, by answers of which each is (where the record ends, how many things in it disagree)
+-- visits of records in order, none left out between them, by answers of which each is (where the record ends, how many things in it disagree)
 unfoldable pub Visited : {V : Type 0} → (List ℕ → V → ℕ → ℕ → ℕ → V → Type 0) → List ℕ → V → Walk → V → Walk → Type 0
 Visited visits s v w v' w' = (answers : List (ℕ × ℕ)) × FoldsTo (Steps visits s) (v, w) answers (v', w')
