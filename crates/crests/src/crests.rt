@@ -65,8 +65,15 @@ fn pass_eights(s: &[f32], floor: f32) -> usize
     8 * eights
 }
 
-// The first place whose value is above the floor.
-pub fn first_above(s: &[f32], floor: f32) -> Option<usize>
+// The first place whose value is above the floor; the slice's length where there is none, and no `Option`: no call fails.
+pub fn first_above(s: &[f32], floor: f32) -> usize
+    ensures { Next (over floor s.now) 0 (length s.now) result }
+{
+    find_above(s, floor).unwrap_or(s.len())
+}
+
+// The same, and none where there is none.
+pub fn find_above(s: &[f32], floor: f32) -> Option<usize>
     ensures next { Next (over floor s.now) 0 (length s.now) (unwrap_or result (length s.now)) }
     ensures within { IfSome result (λ i. i < length s.now) }
 {
@@ -161,9 +168,8 @@ impl Run<'_> {
             return self.next_crest();
         }
         let part = &self.s[self.from..self.to];
-        let first = first_above(part, self.floor).unwrap_or(part.len());
         Stretch {
-            end: self.from + first,
+            end: self.from + first_above(part, self.floor),
             above: 0,
         }
     }

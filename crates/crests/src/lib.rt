@@ -4,5 +4,5 @@
 mod crests;
 mod maximum;
 
-pub use crests::{Stretch, count_above, first_above, next_candidate};
+pub use crests::{Stretch, count_above, find_above, first_above, next_candidate};
 pub use maximum::max_response;

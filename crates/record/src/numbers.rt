@@ -1,5 +1,6 @@
 // The numbers of a list and those of a record, and whether one of them is not finite.
 ghost use Rattle.std.specs.Prelude.{◌≡◌, ◌*◌, ◌<◌, ◌≤◌, length};
+ghost use Rattle.std.specs.Float.Ieee.Scale.{finite};
 ghost use Rattle.grid.specs.Each.{any};
 ghost use Rattle.grid.specs.Fill.{filled};
 ghost use Rattle.grid.specs.Rect.{range};
@@ -8,12 +9,20 @@ ghost use Rattle.record.specs.Record.{stride, stray, number_in};
 use crate::{HEAD, STRIDE, WORD};
 use big_endian::{float, word_at};
 
+// Whether a number is finite: it lies between the infinities, and no NaN does.
+// By two comparisons: std's `is_finite` takes the number from itself.
+fn is_finite(x: f32) -> bool
+    ensures { result ≡ finite x }
+{
+    x < f32::from_bits(0x7f80_0000) && f32::from_bits(0xff80_0000) < x
+}
+
 // Whether a number of a list is not finite.
 // The like of `Numbers::has_stray`, which asks by place: what both could share is this one line.
 pub fn stray_in_list(list: &[f32]) -> bool
     ensures { result ≡ any stray list.now }
 {
-    list.iter().any(|x| !x.is_finite())
+    list.iter().any(|x| !is_finite(*x))
 }
 
 // The numbers of a record: those of as many corners.
@@ -44,7 +53,7 @@ impl Numbers<'_> {
     pub fn has_stray(self) -> bool
         ensures { result ≡ any (λ i. stray (number_in self.entry.file.now i)) (range 0 (stride * self.entry.corners)) }
     {
-        (0..self.len()).any(|i| !self.at(i).is_finite())
+        (0..self.len()).any(|i| !is_finite(self.at(i)))
     }
 
     // All of them into a list.

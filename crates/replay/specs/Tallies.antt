@@ -1,5 +1,6 @@
 -- How what agrees and what does not is counted, along the records of a list.
-use Rattle.std.specs.Prelude.{Bool, cond, ◌&&◌, List, None, Some, unwrap_or, ℕ, ◌-◌, eqb, ltb, length}
+use Rattle.std.specs.Prelude.{◌≡◌, Bool, true, cond, ◌&&◌, List, None, Some, unwrap_or, ℕ, ◌-◌, eqb, ltb, length}
+use Rattle.std.specs.List.{FoldsTo}
 use Rattle.vectors.specs.Vectors.{after_line}
 use Rattle.vectors.specs.Counts.{sum}
 use Rattle.replay.specs.declared.walk.Tally.{Tally}
@@ -26,3 +27,11 @@ onward s w = ltb 0 w.left && ltb w.next (length s)
 -- after a record that ends before `next`
 unfoldable pub walked : Walk → ℕ → ℕ → Walk
 walked w next wrong = record { next = next; left = w.left - 1; tally = counted w.tally wrong }
+
+-- one record's visit: there is a record more, it is visited where it stands, and what the visit answers is what the walk goes on by
+abbrev pub Steps : {V : Type 0} → (List ℕ → V → ℕ → ℕ → ℕ → V → Type 0) → List ℕ → V × Walk → ℕ × ℕ → V × Walk → Type 0
+Steps visits s p a q = (onward s p.1 ≡ true) × visits s p.0 p.1.next a.0 a.1 q.0 × (q.1 ≡ walked p.1 a.0 a.1)
+
+-- visits of records in order, none left out between them, by answers of which each is (where the record ends, how many things in it disagree)
+unfoldable pub Visited : {V : Type 0} → (List ℕ → V → ℕ → ℕ → ℕ → V → Type 0) → List ℕ → V → Walk → V → Walk → Type 0
+Visited visits s v w v' w' = (answers : List (ℕ × ℕ)) × FoldsTo (Steps visits s) (v, w) answers (v', w')

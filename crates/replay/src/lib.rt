@@ -3,7 +3,7 @@
 #![tactic(auto)]
 
 pub use entries::{Compared, Entry, compare, sides};
-pub use walk::{Tally, Walk};
+pub use walk::{Tally, Visit, Walk};
 
 mod entries;
 mod walk;

@@ -1,6 +1,6 @@
 // Along the records of a list: where the walk stands, and what was found so far.
-ghost use Rattle.std.specs.Prelude.{◌≡◌, false};
-ghost use Rattle.replay.specs.Tallies.{counted, opened, onward, walked};
+ghost use Rattle.std.specs.Prelude.{◌≡◌, List, ℕ, false};
+ghost use Rattle.replay.specs.Tallies.{counted, opened, onward, walked, Visited};
 
 use vectors::{after_line, plus};
 
@@ -31,6 +31,16 @@ impl Tally {
             first: Some(self.first.unwrap_or(self.records)),
         }
     }
+}
+
+// What a replay does with the record that stands at a place of its list. `visits` says it of that list, what is kept before, the place, the answer, and
+// what is kept after.
+pub trait Visit {
+    ghost visits: { List ℕ → Self → ℕ → ℕ → ℕ → Self → Type 0 };
+
+    // Where the record ends, and how many things in it disagree.
+    fn visit(&mut self, s: &[u8], at: usize) -> (usize, usize)
+        ensures { visits s.now self.old at result.0 result.1 self.new };
 }
 
 // Where the next record stands, how many more may be read, and what was counted.
@@ -73,15 +83,15 @@ impl Walk {
         }
     }
 
-    // Along every record: `visit` takes where one stands, and answers where it ends and how many things in it disagree.
-    pub fn along<F: FnMut(usize) -> (usize, usize)>(s: &[u8], mut visit: F) -> Walk
-        requires { F.IsAlwaysCallable visit }
-        ensures { onward s.now result ≡ false }
+    // Along every record: each is visited once, where the one before it ends, and what its visit answers is what is counted.
+    pub fn along<V: Visit>(s: &[u8], visitor: &mut V) -> Walk
+        ensures ended { onward s.now result ≡ false }
+        ensures visited { Visited V.visits s.now visitor.old (opened s.now) visitor.new result }
     {
         let mut walk = Walk::start(s);
         // No `for`: only a record says where the next one stands.
         while walk.more(s) {
-            let (next, wrong) = visit(walk.next);
+            let (next, wrong) = visitor.visit(s, walk.next);
             walk = walk.after(next, wrong);
         }
         walk

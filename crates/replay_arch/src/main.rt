@@ -2,8 +2,11 @@
 // function: answer, count and sides, every number of the list, to the bit, and that each work entry which no frame reaches is as it was.
 #![tactic(auto)]
 
+ghost use Rattle.std.specs.Prelude.{◌≡◌, ℕ};
+ghost use Rattle.vectors.specs.Counts.{sum};
+
 use params::{Answer, Outcome, Verdicts};
-use replay::{Compared, Entry, Walk};
+use replay::{Compared, Entry, Visit, Walk};
 use response::WorkBuffers;
 use std::{array, io};
 use vectors::{capped, differ, field, plus, skip, word};
@@ -38,20 +41,36 @@ struct Found {
 }
 
 fn main(rt: HostRuntime) -> io::Result<()> {
-    tell::of_input(&mut rt.stdin(), |s| replayed(&rt, s))
+    let mut room = vectors::room();
+    let s = tell::of_input(&mut rt.stdin(), &mut room)?;
+    replayed(&rt, s)
+}
+
+// What is kept along the records: how many values were compared, and what was found.
+#[derive(Drop, Default)]
+struct Replay {
+    values: usize,
+    found: Found,
+}
+
+impl Visit for Replay {
+    // What was compared there is added. `record` has no contract: so the answer, the number added and what is found are not fixed.
+    ghost visits = { λ s kept at next wrong then. (values : ℕ) × (then.values ≡ sum kept.values values) };
+
+    fn visit(&mut self, s: &[u8], at: usize) -> (usize, usize) {
+        let c = record(s, at, &mut self.found);
+        self.values = plus(self.values, c.values);
+        (c.next, c.wrong)
+    }
 }
 
 // Every arch; then what was found.
 fn replayed(rt: &impl Print, s: &[u8]) -> io::Result<()> {
-    let mut values: usize = 0;
-    let mut found = Found::default();
-    let walk = Walk::along(s, |at| {
-        let c = record(s, at, &mut found);
-        values = plus(values, c.values);
-        (c.next, c.wrong)
-    });
+    let mut kept = Replay::default();
+    let walk = Walk::along(s, &mut kept);
+    let found = kept.found;
     tell::head(rt, s, walk)?;
-    tell::say(rt, "values compared", values)?;
+    tell::say(rt, "values compared", kept.values)?;
     tell::each(rt, "arches with a camera count of ", &found.arches, 2, 9)?;
     tell::say(rt, "arches answered 21", found.refused)?;
     tell::say(rt, "cameras", found.cameras)?;

@@ -3,8 +3,12 @@
 // which beyond.
 #![tactic(auto)]
 
+ghost use Rattle.std.specs.Prelude.{◌≡◌};
+ghost use Rattle.replay_list.specs.declared.Compared.{Compared};
+ghost use Rattle.vectors.specs.Counts.{sum};
+
 use params::{Outcome, Verdicts};
-use replay::Walk;
+use replay::{Visit, Walk};
 use std::io;
 use vectors::{differ, float_at, plus, skip, word};
 
@@ -26,7 +30,11 @@ struct Compared {
 
 impl Compared {
     // What was compared before, and what after it.
-    fn then(self, after: Compared) -> Compared {
+    fn then(self, after: Compared) -> Compared
+        ensures equal { result.equal ≡ sum self.equal after.equal }
+        ensures near { result.near ≡ sum self.near after.near }
+        ensures beyond { result.beyond ≡ sum self.beyond after.beyond }
+    {
         Compared {
             next: after.next,
             wrong: plus(self.wrong, after.wrong),
@@ -38,17 +46,30 @@ impl Compared {
 }
 
 fn main(rt: HostRuntime) -> io::Result<()> {
-    tell::of_input(&mut rt.stdin(), |s| replayed(&rt, s))
+    let mut room = vectors::room();
+    let s = tell::of_input(&mut rt.stdin(), &mut room)?;
+    replayed(&rt, s)
+}
+
+impl Visit for Compared {
+    // What one record has of each kind of Gaussian place is added. `record` has no contract: so the answer and the numbers added are not fixed.
+    ghost visits = { λ s kept at next wrong then.
+        (c : Compared)
+        × (then.equal ≡ sum kept.equal c.equal)
+        × (then.near ≡ sum kept.near c.near)
+        × (then.beyond ≡ sum kept.beyond c.beyond) };
+
+    fn visit(&mut self, s: &[u8], at: usize) -> (usize, usize) {
+        let c = record(s, at);
+        *self = self.then(c);
+        (c.next, c.wrong)
+    }
 }
 
 // Every record; then what was found.
 fn replayed(rt: &impl Print, s: &[u8]) -> io::Result<()> {
     let mut all = Compared::default();
-    let walk = Walk::along(s, |at| {
-        let c = record(s, at);
-        all = all.then(c);
-        (c.next, c.wrong)
-    });
+    let walk = Walk::along(s, &mut all);
     tell::head(rt, s, walk)?;
     tell::say(rt, "Gaussian places equal to the bit", all.equal)?;
     tell::say(rt, "Gaussian places within 0.001", all.near)?;

@@ -1,11 +1,14 @@
 // Replays frames through the map's entry and compares working image, tables, response and scratch to the bit.
 #![tactic(auto)]
 
+ghost use Rattle.std.specs.Prelude.{◌≡◌, ℕ};
+ghost use Rattle.vectors.specs.Counts.{sum};
+
 use params::Answer;
-use replay::{Compared, Walk, compare};
+use replay::{Compared, Visit, Walk, compare};
 use response::{Sides, WorkBuffers, radon_response_u8};
 use std::io;
-use vectors::{capped, field, skip, word};
+use vectors::{capped, field, plus, skip, word};
 
 // No frame file of the list is longer.
 const LIMIT: usize = 2324;
@@ -14,19 +17,34 @@ const LIMIT: usize = 2324;
 const MAX_SIDE: usize = 4096;
 
 fn main(rt: HostRuntime) -> io::Result<()> {
-    tell::of_input(&mut rt.stdin(), |s| replayed(&rt, s))
+    let mut room = vectors::room();
+    let s = tell::of_input(&mut rt.stdin(), &mut room)?;
+    replayed(&rt, s)
+}
+
+// What is kept along the records: how many values were compared.
+#[derive(Drop)]
+struct Replay {
+    values: usize,
+}
+
+impl Visit for Replay {
+    // What was compared there is added. `record` has no contract: so neither the answer nor the number added is fixed.
+    ghost visits = { λ s kept at next wrong then. (values : ℕ) × (then.values ≡ sum kept.values values) };
+
+    fn visit(&mut self, s: &[u8], at: usize) -> (usize, usize) {
+        let c = record(s, at);
+        self.values = plus(self.values, c.values);
+        (c.next, c.wrong)
+    }
 }
 
 // Every record; then what was found.
 fn replayed(rt: &impl Print, s: &[u8]) -> io::Result<()> {
-    let mut values: usize = 0;
-    let walk = Walk::along(s, |at| {
-        let c = record(s, at);
-        values = vectors::plus(values, c.values);
-        (c.next, c.wrong)
-    });
+    let mut kept = Replay { values: 0 };
+    let walk = Walk::along(s, &mut kept);
     tell::head(rt, s, walk)?;
-    tell::say(rt, "values compared", values)
+    tell::say(rt, "values compared", kept.values)
 }
 
 // A record: a file, and what its map is.

@@ -2,10 +2,12 @@
 // Places of a list in Gaussian mode may differ, since the original's logarithm is the platform's: they are counted.
 #![tactic(auto)]
 
-ghost use Rattle.std.specs.Prelude.{◌≡◌, min, length, take};
+ghost use Rattle.std.specs.Prelude.{◌≡◌, ℕ, ◌&&◌, cond, eqb, ltb, min, length, take};
+ghost use Rattle.vectors.specs.Counts.{sum};
+ghost use Rattle.vectors.specs.Vectors.{behind_of};
 
 use params::Outcome;
-use replay::Walk;
+use replay::{Visit, Walk};
 use std::io;
 use vectors::{part, plus, skip};
 
@@ -35,29 +37,52 @@ impl Compared {
 }
 
 fn main(rt: HostRuntime) -> io::Result<()> {
-    tell::of_input(&mut rt.stdin(), |s| replayed(&rt, s))
+    let mut room = vectors::room();
+    let s = tell::of_input(&mut rt.stdin(), &mut room)?;
+    replayed(&rt, s)
+}
+
+// What is kept along the records: how many agree to the bit, in how many corners differ in their places, and how many corners do.
+#[derive(Drop, Default)]
+struct Replay {
+    exact: usize,
+    lists: usize,
+    places: usize,
+}
+
+impl Visit for Replay {
+    // A record ends behind its text; of the lines that disagree and the corners whose places differ, the three counts are what they say.
+    ghost visits = { λ s kept at next wrong then.
+        (next ≡ behind_of s (behind_of s at))
+        × ((places : ℕ)
+        × (then.exact ≡ sum kept.exact (cond (eqb wrong 0 && eqb places 0) 1 0))
+        × (then.lists ≡ sum kept.lists (cond (ltb 0 places) 1 0))
+        × (then.places ≡ sum kept.places places)) };
+
+    fn visit(&mut self, s: &[u8], at: usize) -> (usize, usize) {
+        let c = record(s, at);
+        let exact = c.wrong == 0 && c.places == 0;
+        self.exact = plus(self.exact, usize::from(exact));
+        self.lists = plus(self.lists, usize::from(c.places > 0));
+        self.places = plus(self.places, c.places);
+        (c.next, c.wrong)
+    }
 }
 
 // Every record; then what was found.
 fn replayed(rt: &impl Print, s: &[u8]) -> io::Result<()> {
-    let mut exact: usize = 0;
-    let mut lists: usize = 0;
-    let mut places: usize = 0;
-    let walk = Walk::along(s, |at| {
-        let c = record(s, at);
-        exact = plus(exact, usize::from(c.wrong == 0 && c.places == 0));
-        lists = plus(lists, usize::from(c.places > 0));
-        places = plus(places, c.places);
-        (c.next, c.wrong)
-    });
+    let mut kept = Replay::default();
+    let walk = Walk::along(s, &mut kept);
     tell::head(rt, s, walk)?;
-    tell::say(rt, "records that agree to the bit", exact)?;
-    tell::say(rt, "Gaussian lists in which places differ", lists)?;
-    tell::say(rt, "corners whose places differ there", places)
+    tell::say(rt, "records that agree to the bit", kept.exact)?;
+    tell::say(rt, "Gaussian lists in which places differ", kept.lists)?;
+    tell::say(rt, "corners whose places differ there", kept.places)
 }
 
 // A record: a file, and a text.
-fn record(s: &[u8], at: usize) -> Compared {
+fn record(s: &[u8], at: usize) -> Compared
+    ensures { result.next ≡ behind_of s.now (behind_of s.now at) }
+{
     let text = vectors::behind(s, at);
     let c = answered(vectors::sized(s, at), vectors::sized(s, text));
     Compared {

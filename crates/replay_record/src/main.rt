@@ -2,10 +2,12 @@
 // what it wrote, to the bit, and that every other entry of the lent buffer is as it was.
 #![tactic(auto)]
 
-ghost use Rattle.std.specs.Prelude.{◌≤◌, length};
+ghost use Rattle.std.specs.Prelude.{◌≡◌, ◌+◌, ◌≤◌, cond, eqb, min, length};
+ghost use Rattle.vectors.specs.Counts.{sum};
+ghost use Rattle.vectors.specs.Vectors.{behind_of, word_at};
 
 use params::Outcome;
-use replay::{Entry, Walk, compare};
+use replay::{Entry, Visit, Walk, compare};
 use std::{array, io};
 use vectors::{capped, differ, field, plus, skip, word};
 
@@ -29,26 +31,44 @@ const OLD_NUMBER: u64 = 0xa5a5_a5a5;
 const MAX_SIDE: usize = 65535;
 
 fn main(rt: HostRuntime) -> io::Result<()> {
-    tell::of_input(&mut rt.stdin(), |s| replayed(&rt, s))
+    let mut room = vectors::room();
+    let s = tell::of_input(&mut rt.stdin(), &mut room)?;
+    replayed(&rt, s)
+}
+
+// What is kept along the vectors: the calls of each kind.
+#[derive(Drop, Default)]
+struct Replay {
+    reads: Calls,
+    writes: Calls,
+}
+
+impl Visit for Replay {
+    // A vector ends behind its two parts, and is a call more of its kind. How many things in it disagree `vector` leaves open.
+    ghost visits = { λ s kept at next wrong then.
+        (next ≡ behind_of s (behind_of s (min (at + 32) (length s))))
+        × (then.reads.all ≡ cond (eqb (word_at s at) 0) (sum kept.reads.all 1) kept.reads.all)
+        × (then.writes.all ≡ cond (eqb (word_at s at) 1) (sum kept.writes.all 1) kept.writes.all) };
+
+    fn visit(&mut self, s: &[u8], at: usize) -> (usize, usize) {
+        let kind = kind_at(s, at);
+        let c = vector(kind, s, at);
+        match kind {
+            Some(Kind::Read) => self.reads.count(c.answer),
+            Some(Kind::Written) => self.writes.count(c.answer),
+            None => {}
+        }
+        (c.next, c.wrong)
+    }
 }
 
 // Every vector; then what was found.
 fn replayed(rt: &impl Print, s: &[u8]) -> io::Result<()> {
-    let mut reads = Calls::default();
-    let mut writes = Calls::default();
-    let walk = Walk::along(s, |at| {
-        let kind = kind_at(s, at);
-        let c = vector(kind, s, at);
-        match kind {
-            Some(Kind::Read) => reads.count(c.answer),
-            Some(Kind::Written) => writes.count(c.answer),
-            None => {}
-        }
-        (c.next, c.wrong)
-    });
+    let mut kept = Replay::default();
+    let walk = Walk::along(s, &mut kept);
     tell::head(rt, s, walk)?;
-    reads.tell(rt, "reads")?;
-    writes.tell(rt, "writes")
+    kept.reads.tell(rt, "reads")?;
+    kept.writes.tell(rt, "writes")
 }
 
 // How many calls there were, and how many had each answer: by number, since `tell::each` prints a line for each place.
@@ -60,7 +80,9 @@ struct Calls {
 
 impl Calls {
     // One call more of that answer.
-    fn count(&mut self, answer: u64) {
+    fn count(&mut self, answer: u64)
+        ensures { self.new.all ≡ sum self.old.all 1 }
+    {
         let i = capped(answer, 30);
         self.answered[i] = plus(self.answered[i], 1);
         self.all = plus(self.all, 1);
@@ -82,7 +104,9 @@ struct Compared {
 }
 
 // The kind that a vector begins with. No `TryFrom`: to be of no kind is no error here.
-fn kind_at(s: &[u8], at: usize) -> Option<Kind> {
+fn kind_at(s: &[u8], at: usize) -> Option<Kind>
+    ensures { result ≡ cond (eqb (word_at s.now at) 0) (Some Kind.Read) (cond (eqb (word_at s.now at) 1) (Some Kind.Written) None) }
+{
     match word(s, at) {
         0 => Some(Kind::Read),
         1 => Some(Kind::Written),
@@ -91,7 +115,9 @@ fn kind_at(s: &[u8], at: usize) -> Option<Kind> {
 }
 
 // A vector: eight words, what is given, and what is due. One of no kind is compared as a list, and not counted.
-fn vector(kind: Option<Kind>, s: &[u8], at: usize) -> Compared {
+fn vector(kind: Option<Kind>, s: &[u8], at: usize) -> Compared
+    ensures { result.next ≡ behind_of s.now (behind_of s.now (min (at + 32) (length s.now))) }
+{
     let given = skip(s, at, 32);
     let due = vectors::behind(s, given);
     let part = vectors::sized(s, given);
@@ -102,7 +128,9 @@ fn vector(kind: Option<Kind>, s: &[u8], at: usize) -> Compared {
 }
 
 // A record into a list, of which as much is lent as the vector says.
-fn read(file: &[u8], s: &[u8], at: usize, due: usize) -> Compared {
+fn read(file: &[u8], s: &[u8], at: usize, due: usize) -> Compared
+    ensures { result.next ≡ behind_of s.now due }
+{
     let mut list = [vectors::float(OLD_NUMBER); NUMBERS];
     let room = capped(field(s, at, 12), NUMBERS);
     let outcome = record::read_record(file, &mut list[..room]);
@@ -116,7 +144,9 @@ fn read(file: &[u8], s: &[u8], at: usize, due: usize) -> Compared {
 }
 
 // A list into an output, of which as much is lent as the vector says.
-fn written(patterns: &[u8], s: &[u8], at: usize, due: usize) -> Compared {
+fn written(patterns: &[u8], s: &[u8], at: usize, due: usize) -> Compared
+    ensures { result.next ≡ behind_of s.now due }
+{
     let list = numbers(patterns);
     let n = capped((patterns.len() / 4) as u64, NUMBERS);
     let mut out = [OLD; BYTES];
@@ -152,7 +182,9 @@ fn differs<T: Entry>(buffer: &[T], n: usize, s: &[u8], due: usize) -> usize
 }
 
 // The answer, the count and the sides of a call that left so many wrong entries.
-fn against(outcome: Outcome, s: &[u8], at: usize, due: usize, entries: usize) -> Compared {
+fn against(outcome: Outcome, s: &[u8], at: usize, due: usize, entries: usize) -> Compared
+    ensures { result.next ≡ behind_of s.now due }
+{
     let answer = u64::from(outcome.answer.number());
     let mut wrong = entries;
     for (found, place) in [

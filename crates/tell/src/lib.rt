@@ -1,22 +1,21 @@
 // How a replay program takes its list, and what it tells of the replay, on standard output.
 #![tactic(auto)]
 
+ghost use Rattle.std.specs.Prelude.{◌≡◌, ◌≤◌, take, length, IfOk, IfSome};
+
 use replay::Walk;
 use std::convert::AsSlice;
 use std::io;
 use std::io::Read;
 use vectors::{after_line, part};
 
-// Reads a list, as much of it as there is room for, and has it replayed.
-pub fn of_input<R: Read, F: FnOnce(&[u8]) -> io::Result<()>>(
-    from: &mut R,
-    replayed: F,
-) -> io::Result<()>
-    requires { F.IsAlwaysCallable replayed }
+// Reads a list into the room, as much of it as there is room for, and gives what it read.
+pub fn of_input<'a, R: Read>(from: &mut R, room: &'a mut [u8]) -> io::Result<&'a [u8]>
+    ensures within { IfOk result (λ list. length list.now ≤ length room.old) }
+    ensures front { IfOk result (λ list. IfSome (R.remaining from.old) (λ given. list.now ≡ take (length room.old) given)) }
 {
-    let mut room = vectors::room();
-    let got = input::read_full(from, &mut room)?;
-    replayed(&room[..got])
+    let got = input::read_full(from, room)?;
+    Ok(&room[..got])
 }
 
 // The list's own line, the number of records, and how many disagree.

@@ -50,6 +50,17 @@ fn row_kernel(top: &[u8], low: &[u8], w: usize, dst: &mut [u8])
     dst[i + 1] = m;
 }
 
+// The n entries of src from a on.
+// By a loop: `copy_from_slice` is a call of `memmove`, which the archive for C would then ask of whoever links it.
+fn copy(src: &[u8], a: usize, n: usize, dst: &mut [u8])
+    requires { (a + n ≤ length src.now) × (n ≤ length dst.old) }
+    ensures { dst.new ≡ filled n (λ k. get_or src.now (a + k) 0) dst.old }
+{
+    for i in 0..n {
+        dst[i] = src[a + i];
+    }
+}
+
 // An image, and how many times as wide and high the working image is that is made of it.
 #[derive(Clone, Copy)]
 struct Source<'a> {
@@ -111,8 +122,7 @@ impl<'a> Source<'a> {
             let b = ((y + y % 2) / 2).min(self.h - 1) * w;
             row_kernel(&self.pixels[a..], &self.pixels[b..], w, out);
         } else {
-            let a = y * w;
-            out[..w].copy_from_slice(&self.pixels[a..a + w]);
+            copy(self.pixels, y * w, w, out);
         }
     }
 

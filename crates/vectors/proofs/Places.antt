@@ -1,10 +1,12 @@
--- Where the first line of a list ends: behind its first line feed, or at the end. Assumes nothing.
-use Rattle.std.specs.Prelude.{◌≡◌, refl, Bool, true, false, not, cond, Some, None, List, [], ◌∷◌, ℕ, suc, ◌+◌, min, eqb, length, position}
+-- Where the first line of a list ends: behind its first line feed, or at the end; and a word read from its place on. Assumes nothing.
+use Rattle.std.specs.Prelude.{◌≡◌, refl, Bool, true, false, not, cond, Some, None, List, [], ◌∷◌, ℕ, suc, ◌+◌, ◌≤◌, min, eqb, length, drop, get_or, position}
 use Rattle.std.specs.List.{position_or_len}
-use Rattle.std.proofs.Common.{arith}
+use Rattle.std.proofs.Common.{arith, ap, ◌∙◌}
+use lib.Seq.{get_or-drop}
 use Rattle.std.proofs.lemmas.Bool.Decides.{nat_tests}
 use Rattle.std.proofs.lemmas.List.Quantifiers.{position-Some}
 use Rattle.std.proofs.lemmas.List.Sums.{position_or_len_is}
+use Rattle.big_endian.specs.BigEndian as big
 use Rattle.vectors.specs.Vectors.{after_line}
 
 cut : (t : Bool) (m n : ℕ) → cond t 1 (suc (min (m + 1) n)) ≡ min (cond (not t) (1 + m) 0 + 1) (suc n)
@@ -24,3 +26,12 @@ line_found s i e =
 
 pub no_line : (s : List ℕ) → position (λ b. eqb b 10) s ≡ None → length s ≡ after_line s
 no_line s e = grind (arith, nat_tests, after_line_is s)
+
+-- a word that lies in the list, as it begins what stands from its place on
+pub word_from : (s : List ℕ) (at : ℕ) → at + 4 ≤ length s → big.word_at (drop (min at (length s)) s) 0 ≡ big.word_at s at
+word_from s at l =
+    let here : min at (length s) ≡ at = omega arith in
+    rw (here, byte 0 at (omega arith), byte (0 + 1) (at + 1) (omega arith), byte (0 + 2) (at + 2) (omega arith), byte (0 + 2 + 1) (at + 2 + 1) (omega arith)) refl
+  where
+    byte : (k j : ℕ) → at + k ≡ j → get_or (drop at s) k 0 ≡ get_or s j 0
+    byte k j e = get_or-drop at s k 0 ∙ ap (λ (n : ℕ). get_or s n 0) e

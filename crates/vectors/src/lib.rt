@@ -33,15 +33,17 @@ pub fn byte(s: &[u8], at: usize) -> u64
 }
 
 // The four bytes at a place as a number, the highest first.
-#[tactic(auto, unfolding(crate::specs::Vectors::word_at))]
+#[tactic(auto, using(crate::proofs::Places::word_from), unfolding(crate::specs::Vectors::word_at))]
 pub fn word(s: &[u8], at: usize) -> u64
     ensures value { result ≡ word_at s.now at }
     ensures most { result ≤ 4294967296 }
 {
-    if s.len().saturating_sub(at) < 4 {
+    // From the place on: so one test serves all four bytes.
+    let rest = &s[at.min(s.len())..];
+    if rest.len() < 4 {
         return NO_WORD;
     }
-    u64::from(big_endian::word_at(s, at))
+    u64::from(big_endian::word_at(rest, 0))
 }
 
 // The place n bytes further, and the end at most.

@@ -19,10 +19,10 @@ use Rattle.saddle.specs.Saddle.{saddle_of, saddle_at, disk_fits}
 use Rattle.saddle.specs.Steps.{Around}
 use Rattle.saddle.proofs.Fitting.{accepts_plain}
 use Rattle.verdict.specs.declared.Verdict.{Verdict}
-use Rattle.verdict.specs.declared.Verdict.TheVariants.{NotAbove, Beaten, TooFew}
+use Rattle.verdict.specs.declared.Verdict.TheVariants.{NotAbove, Beaten, TooFew, TooFlat, WrongCurvature, Kept}
 use Rattle.verdict.specs.declared.Scan.{Scan}
 use Rattle.verdict.specs.Window.{beaten, positives}
-use Rattle.verdict.specs.Verdict.{by_saddle, first_failing, verdict}
+use Rattle.verdict.specs.Verdict.{by_saddle, first_failing, rank, verdict}
 use Rattle.verdict.specs.Judged.{window_fits, saddle_in, first_failing_in, judged_in}
 use Rattle.verdict.specs.Room.{Room}
 
@@ -88,3 +88,13 @@ module _ (s : Scan) (resp : List Float) (image : List ℕ) (x y : ℕ) where
       → v ≡ judged_in s resp image x y → v ≡ verdict s.params s.floor map (pixel image s.w) here
   unfolding first_failing_in verdict
   judged_plain w d t e = rw (square_so w, accepts_plain d s.test (pixel image s.w) refl, t) at e
+
+-- ---- ranks
+
+pub rank_most : (v : Verdict) → rank v < 6
+rank_most NotAbove = omega arith
+rank_most Beaten = omega arith
+rank_most TooFew = omega arith
+rank_most TooFlat = omega arith
+rank_most WrongCurvature = omega arith
+rank_most Kept = omega arith

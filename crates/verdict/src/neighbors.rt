@@ -6,7 +6,7 @@ ghost use Rattle.grid.specs.Ways.{value};
 ghost use Rattle.verdict.specs.Window.{beaten, positives};
 ghost use Rattle.verdict.specs.Room.{Room, Cross, RowRoom, nearest, row_part, positives_there};
 
-use crests::{count_above, first_above};
+use crests::{count_above, find_above};
 
 // The window of radius r about (x, y) in a map w wide and h high, and the value v at its centre.
 #[derive(Clone, Copy)]
@@ -53,7 +53,7 @@ impl<'a> Window<'a> {
         if 0 < self.r && self.near_beats() {
             return false;
         }
-        (self.y - self.r..self.y + self.r + 1).all(|yy| first_above(self.row(yy), self.v).is_none())
+        (self.y - self.r..self.y + self.r + 1).all(|yy| find_above(self.row(yy), self.v).is_none())
     }
 
     // How many values in the window are above zero, the centre counted too.

@@ -1,4 +1,4 @@
--- `crests::crests::above_in` meets its contract: what the filter lets through are the entries above the floor. Assumes nothing.
+-- `crests::crests::above_in` meets its contract: what is counted are the entries above the floor. Assumes nothing.
 use Rattle.std.specs.Prelude.{◌≡◌, count_by}
 use Rattle.std.specs.Float.Ieee.{lt}
 use Rattle.std.proofs.Common.{arith, ◌∙◌}

@@ -1,6 +1,6 @@
 -- `upsample::Source::row` meets its contract: between two rows of the image at factor 2, one row of it at factor 1. Assumes nothing.
 use Rattle.std.proofs.Common.{◌≡◌, arith}
-use Rattle.upsample.proofs.Steps.{part_at, row_copied, doubled, alone, copied}
+use Rattle.upsample.proofs.Steps.{part_at, doubled, copied}
 use Rattle.upsample.proofs.Source.row.Goals as goal
 
 pub returns-then-self-eq2 : goal.returns-then-self-eq2
@@ -13,6 +13,4 @@ returns-else-self-eq2 c =
     let s = c.args.self in
     let image = c.requires.image in
     let one : s.factor ≡ 1 = omega (arith, image.one, image.two) in
-    let row = alone c.requires one in
-    copied s.pixels.now s.w s.h c.args.y s.factor c.args.out.now one
-    (row_copied _ s.w s.pixels.now c.args.out.now row.here row.wide c.copy_from_slice.ensures.after)
+    copied s.pixels.now s.w s.h c.args.y s.factor c.args.out.now one c.copy.ensures

@@ -7,4 +7,4 @@ pub returns : goal.returns
 returns c =
     let o = c.args.self.now in
     worth-above c.args.r o.floor o.s.now o.from o.to c.if-r-gt0.false
-    (omega arith) (omega arith) (rw c.unwrap_or-first.ensures c.first_above.ensures.next)
+    (omega arith) (omega arith) c.first_above.ensures

@@ -1,10 +1,10 @@
--- `crests::crests::first_above` meets its contract: it looks on behind the eights that it passed. Assumes nothing.
+-- `crests::crests::find_above` meets its contract: it looks on behind the eights that it passed. Assumes nothing.
 use Rattle.std.proofs.Common.{◌≡◌, true, false, length, rules}
 use borrow.Author.Tests.{tests}
 use Rattle.std.proofs.lemmas.Iterator.{first_from_Range}
 use Rattle.crests.specs.Crests.{over}
 use Rattle.crests.proofs.Found.{next_first}
-use Rattle.crests.proofs.crests.first_above.Goals as goal
+use Rattle.crests.proofs.crests.find_above.Goals as goal
 
 pub returns-clause-next : goal.returns-clause-next
 returns-clause-next c =
